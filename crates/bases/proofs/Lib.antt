@@ -1,3 +1,4 @@
 pub mod Sums
 pub mod Moves
 pub mod Toward
+pub mod Refusals

@@ -1,3 +1,4 @@
 pub mod Sums
 pub mod Exchange
 pub mod Says
+pub mod Rows

@@ -28,6 +28,10 @@ abbrev pub ReachSays : (List ℕ → Type 0) → List ℕ → Kind → ℕ → R
 ReachSays B x kind i (Ok set) = (i < length x) × ((j : ℕ) → (In j set → Reaches B x i j) × (Reaches B x i j → In j set))
 ReachSays B x kind i (Err fault) = (length x ≤ i) × (fault ≡ faultAt NoSuchSeat i kind)
 
+-- i and j are two different seats among n
+abbrev pub Two : ℕ → ℕ → ℕ → Type 0
+Two n i j = (i < n) × (j < n) × (i ≡ j → ⊥)
+
 -- The fault of a shift from i to j that is refused, among n seats. The top looks for a seat that is none,
 -- the first given first, and then for equal seats; for two different seats `why` says what forbids it.
 abbrev pub refusal : ℕ → Kind → (ℕ → ℕ → Fault) → ℕ → ℕ → Fault

@@ -69,5 +69,6 @@ pub trait BaseSystem {
 
     fn shift(&mut self, i: u8, j: u8) -> Result<u32, Fault>
         requires { ⌜ Stands (bases (now self)) (loads (now self)) (top (now self)) ⌝ }
-        ensures { λ r. ⌜ ShiftSays (now (self .entry)) (now (self .exit)) (bases (now (self .entry))) (loads (now (self .entry))) (refusal (seats (now (self .entry))) (layer (now (self .entry))) (why (now (self .entry))) i j) (λ count. shifted (now (self .entry)) i j count (now (self .exit))) i j r ⌝ };
+        ensures says { λ r. ⌜ ShiftSays (now (self .entry)) (now (self .exit)) (bases (now (self .entry))) (loads (now (self .entry))) (refusal (seats (now (self .entry))) (layer (now (self .entry))) (why (now (self .entry))) i j) (λ count. shifted (now (self .entry)) i j count (now (self .exit))) i j r ⌝ }
+        ensures stands { λ _. ⌜ Stands (bases (now (self .exit))) (loads (now (self .exit))) (top (now (self .exit))) ⌝ };
 }

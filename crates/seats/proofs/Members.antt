@@ -1,8 +1,8 @@
 -- Which seats belong to a set that the code makes from others. Assumes nothing.
-use mathlib.Core.Path.{_≡_, refl, sym, ap, subst, _∙_}
+use mathlib.Core.Path.{_≡_, refl, ap, subst, _∙_}
 use mathlib.Core.Logic.{_⊎_, inl, inr, ⊎-elim}
 use mathlib.Core.Bool.{Bool, true, false}
-use Prim.Native.Nat.{ℕ, zero, suc, _+_, _-_, _/_, _%_, _^_, _≤_, _<_, min, max}
+use Prim.Native.Nat.{ℕ, zero, suc, _-_, _^_, _≤_, _<_}
 use native.Mathlib.Nat.{sub-zero}
 use native.Mathlib.Omega.{arith}
 use lib.Bits.{bitAnd, bitOr}
@@ -12,7 +12,7 @@ use borrow.Author.Tests.{eqb-true, eqb-false}
 use Rattle.std.proofs.shelf.Tests.{cases-eq, cases-lt}
 use Rattle.std.specs.Orderings.{When}
 use Rattle.seats.specs.Sets.{In, Within, Exactly, Joined, Shared, Removed}
-use Rattle.seats.proofs.Digits.{digit, digit-lt, zero-or-one, digit-zero, digit-suc, digit-of-zero, digit-and, digit-or, digit-not, digit-above, digit-one, digit-other, same-digits}
+use Rattle.seats.proofs.Digits.{digit, digit-lt, zero-or-one, digit-of-zero, digit-and, digit-or, digit-not, digit-above, digit-one, digit-other, same-digits}
 
 -- a seat belongs, or its digit is nought
 pub in-or-nought : (i s : ℕ) → In i s ⊎ (digit i s ≡ 0)

@@ -1,14 +1,14 @@
 -- The lowest member of a set, and the set without it. Assumes nothing.
 use mathlib.Core.Path.{_≡_, refl, sym, ap, subst, _∙_}
 use mathlib.Core.Logic.{_⊎_, inl, inr, ⊎-elim}
-use Prim.Native.Nat.{ℕ, zero, suc, _+_, _-_, _/_, _%_, _^_, _≤_, _<_, min}
+use Prim.Native.Nat.{ℕ, zero, suc, _-_, _/_, _%_, _^_, _≤_, _<_}
 use native.Mathlib.Omega.{arith}
 use lib.Bits.{bitAnd, and-le-r}
-use lib.Count.{ones, trailingZeros, under}
+use lib.Count.{trailingZeros, under}
 use Rattle.std.proofs.shelf.Tests.{cases-eq, cases-lt}
 use Rattle.seats.specs.Sets.{In, Exactly, Lowest, Taken}
-use Rattle.seats.proofs.Digits.{digit, digit-zero, digit-suc, digit-and, digit-lt, half-lt, even-or-odd}
-use Rattle.seats.proofs.Members.{in-positive, in-none, out-nought, shared}
+use Rattle.seats.proofs.Digits.{digit, digit-zero, digit-suc, half-lt, even-or-odd}
+use Rattle.seats.proofs.Members.{in-positive, out-nought, shared}
 use Rattle.seats.proofs.Counts.{ones-one-more}
 
 -- no member of the set is below t

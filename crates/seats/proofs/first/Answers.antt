@@ -1,5 +1,5 @@
 use native.Mathlib.Omega.{arith}
-use Prim.Native.Nat.{_<_, _-_, _^_}
+use Prim.Native.Nat.{_<_, _-_}
 use Rattle.std.proofs.shelf.Bits.{one-shl}
 use Rattle.seats.proofs.Members.{below-power}
 use Rattle.seats.proofs.first.Needs as need

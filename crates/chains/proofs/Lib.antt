@@ -1,0 +1,5 @@
+pub mod Spreads
+pub mod Exact
+pub mod Walked
+pub mod Marking
+pub mod Shifts

@@ -1,0 +1,8 @@
+// Base systems of divided items: reach and shift through chains of links.
+pub mod back;
+pub mod spread;
+pub mod system;
+
+pub use system::Divided;
+pub use system::DividedRows;
+pub use system::DividedSystem;

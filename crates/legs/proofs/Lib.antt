@@ -1,0 +1,5 @@
+mod Ends
+mod Lawfully
+mod Reasons
+mod Linking
+pub mod RowSums

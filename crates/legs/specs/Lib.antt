@@ -1,0 +1,4 @@
+pub mod Lawful
+pub mod Refusals
+pub mod Shares
+pub mod Written
