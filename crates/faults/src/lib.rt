@@ -38,7 +38,7 @@ pub enum Place {
     Column { line: u32, column: u32 },
 }
 
-// Which layer or bottom refuses; `Page` for reader and writer, `Foreign` for a system that others write.
+// Which layer or bottom refuses; `Page` for reader and writer, `Shares` for the weights of shares, `Foreign` for a system that others write.
 #[derive(Clone, Copy, PartialEq, Eq, Debug)]
 pub enum Kind {
     Page,
@@ -48,6 +48,7 @@ pub enum Kind {
     Carry,
     Caps,
     Favour,
+    Shares,
     Foreign,
 }
 

@@ -1,0 +1,12 @@
+// Certificates: tables of rows which show that the standing base is level by whole loads.
+pub mod checking;
+pub mod making;
+pub mod row;
+pub mod theorem;
+mod sets;
+mod values;
+
+pub use checking::check;
+pub use making::certify;
+pub use row::CertRow;
+pub use theorem::a_table_passes_exactly_when_level;

@@ -1,0 +1,20 @@
+// Which bases have a certificate.
+ghost use mathlib.Core.List.{List};
+ghost use Rattle.bases.specs.Says.{Stands};
+ghost use Rattle.grades.specs.Grades.{whole};
+ghost use Rattle.optima.specs.Steps.{LevelBy};
+ghost use Rattle.certificates.specs.declared.row.CertRow.{CertRow};
+ghost use Rattle.certificates.specs.Tables.{Accepts};
+use crate::making::certify;
+use crate::row::CertRow;
+use bases::BaseSystem;
+
+// A table that passes exists exactly where the standing base is level by whole loads: one of 64 rows has room for it.
+pub fn a_table_passes_exactly_when_level<S: BaseSystem>(s: &S)
+    requires { ⌜ Stands (S·BaseSystem .bases (now s)) (S·BaseSystem .loads (now s)) (S·BaseSystem .top (now s)) ⌝ }
+    ensures shows { λ _. ⌜ ((rows : List CertRow) → Accepts (S·BaseSystem .bases (now (s .entry))) (S·BaseSystem .loads (now (s .entry))) rows → LevelBy (S·BaseSystem .bases (now (s .entry))) whole (S·BaseSystem .loads (now (s .entry)))) ⌝ }
+    ensures exists { λ _. ⌜ (LevelBy (S·BaseSystem .bases (now (s .entry))) whole (S·BaseSystem .loads (now (s .entry))) → (rows : List CertRow) × Accepts (S·BaseSystem .bases (now (s .entry))) (S·BaseSystem .loads (now (s .entry))) rows) ⌝ }
+{
+    let mut table = [CertRow { value: 0, set: 0 }; 64];
+    let _ = certify(s, &mut table);
+}

@@ -1,0 +1,5 @@
+pub mod Grades
+pub mod ByNumber
+pub mod CapGrades
+pub mod FavourGrades
+pub mod Weights

@@ -1,0 +1,4 @@
+pub mod LeastCost
+pub mod Graded
+pub mod Heaviest
+pub mod Squares

@@ -1,0 +1,1 @@
+// The mathematics of level bases: what no single step betters, nothing betters.
