@@ -82,4 +82,4 @@ CertifySays B x kind before after (Ok count) = Filled B x before after count × 
 CertifySays B x kind before after (Err fault) =
     (after ≡ before)
     × (((LevelBy B whole x → ⊥) × (fault ≡ faultNowhere NotLevel kind))
-      ⊎ (LevelBy B whole x × (length before < differentLoads x) × (fault ≡ faultNowhere TooFewRows kind)))
+    ⊎ (LevelBy B whole x × (length before < differentLoads x) × (fault ≡ faultNowhere TooFewRows kind)))

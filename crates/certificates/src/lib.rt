@@ -2,8 +2,8 @@
 pub mod checking;
 pub mod making;
 pub mod row;
-pub mod theorem;
 mod sets;
+pub mod theorem;
 mod values;
 
 pub use checking::check;

@@ -22,9 +22,9 @@ share-grades weight some =
       never-self = λ i u _ h. omega (arith, ltb→lt (u * weight i) (u * weight i) h);
       one-way = λ i u j v _ _ h k. omega (arith, ltb→lt (v * weight i) (u * weight j) h, ltb→lt (u * weight j) (v * weight i) k);
       between = λ i u j v k x _ _ _ h.
-      ⊎-elim (λ low. inl (lt→ltb (x * weight i) (u * weight k) low))
-      (λ first. ⊎-elim (λ low. inr (lt→ltb (v * weight k) (x * weight j) low))
-      (λ second. absurd (omega (arith, ltb→lt (v * weight i) (u * weight j) h, fractions-join u v x (weight i) (weight j) (weight k) (some k) first second)))
-      (cases-lt (v * weight k) (x * weight j))) (cases-lt (x * weight i) (u * weight k));
+          ⊎-elim (λ low. inl (lt→ltb (x * weight i) (u * weight k) low))
+          (λ first. ⊎-elim (λ low. inr (lt→ltb (v * weight k) (x * weight j) low))
+          (λ second. absurd (omega (arith, ltb→lt (v * weight i) (u * weight j) h, fractions-join u v x (weight i) (weight j) (weight k) (some k) first second)))
+          (cases-lt (v * weight k) (x * weight j))) (cases-lt (x * weight i) (u * weight k));
       rises = λ i u v _ _ le h. omega (arith, ltb→lt (v * weight i) (u * weight i) h, mul-le-mul-right (weight i) le);
     }

@@ -17,8 +17,8 @@ number-grades grade climbs =
       never-self = λ i u _ h. omega (arith, ltb→lt (grade i u) (grade i u) h);
       one-way = λ i u j v _ _ h k. omega (arith, ltb→lt (grade j v) (grade i u) h, ltb→lt (grade i u) (grade j v) k);
       between = λ i u j v k w _ _ _ h.
-      ⊎-elim (λ low. inl (lt→ltb (grade k w) (grade i u) low))
-      (λ high. inr (lt→ltb (grade j v) (grade k w) (omega (arith, ltb→lt (grade j v) (grade i u) h, high)))) (cases-lt (grade k w) (grade i u));
+          ⊎-elim (λ low. inl (lt→ltb (grade k w) (grade i u) low))
+          (λ high. inr (lt→ltb (grade j v) (grade k w) (omega (arith, ltb→lt (grade j v) (grade i u) h, high)))) (cases-lt (grade k w) (grade i u));
       rises = λ i u v _ _ le h. omega (arith, ltb→lt (grade i v) (grade i u) h, climbs i u v le);
     }
 

@@ -1,71 +1,53 @@
-// Three stations in a row: the heaviest can only be relieved through the middle one.
+// Examples of what the planner does: relief through a chain, a plan with its certificate, a plan by shares.
+mod plans;
+mod relief;
 mod show;
 
-use bases::Rows;
-use carry::Carry;
-use carry::CarrySystem;
-use chains::Divided;
-use chains::DividedRows;
-use chains::DividedSystem;
 use legs::Leg;
-use legs::LegDivision;
-use legs::LegRecord;
-use legs::LegRow;
 use legs::LegTable;
-use show::show_changes;
+use plans::plan;
+use plans::plan_by_shares;
+use relief::relieve;
 use show::show_fault;
-use show::show_loads;
-use show::show_reach;
-use show::show_shift;
+use std::alloc::AllocError;
+use std::alloc::Global;
 use std::error::AnyError;
-use std::io;
 
 fn main(rt: LibcRuntime) -> Result<(), AnyError> {
-    let mut stations = Vec::new(rt.alloc());
-    stations.push(Leg {
-        a: 0,
-        b: 1,
-        passages: 6,
-    })?;
-    stations.push(Leg {
-        a: 1,
-        b: 2,
-        passages: 5,
-    })?;
-    match LegTable::new(3, stations) {
+    match LegTable::new(3, stations(rt.alloc())?) {
         Ok(table) => relieve(&rt, table)?,
+        Err(fault) => show_fault(&rt, fault)?,
+    }
+    match LegTable::new(3, stations(rt.alloc())?) {
+        Ok(table) => plan(&rt, table)?,
+        Err(fault) => show_fault(&rt, fault)?,
+    }
+    match LegTable::new(
+        2,
+        [Leg {
+            a: 0,
+            b: 1,
+            passages: 2,
+        }].to_vec(rt.alloc())?,
+    ) {
+        Ok(table) => plan_by_shares(&rt, table)?,
         Err(fault) => show_fault(&rt, fault)?,
     }
     Ok(())
 }
 
-// Moves one unit from station 0 to station 2 and back, and then tries what cannot be done.
-fn relieve(rt: &LibcRuntime, table: LegTable) -> io::Result<()> {
-    let mut legs = Divided::over(table);
-    let blank = LegRow {
-        a: 0,
-        b: 0,
-        share_a: 0,
-        share_b: 0,
-    };
-    let mut before = [blank; 2];
-    let mut after = [blank; 2];
-    println!(
-        rt,
-        "Three stations in a row, with 6 passages between 0 and 1, and 5 between 1 and 2:"
-    )?;
-    show_loads(rt, &legs)?;
-    show_reach(rt, &legs, 0)?;
-    let _ = legs.write_rows(&mut before);
-    show_shift(rt, &mut legs, 0, 2)?;
-    let _ = legs.write_rows(&mut after);
-    show_changes(rt, &before, &after)?;
-    show_loads(rt, &legs)?;
-    println!(
-        rt,
-        "The same under two layers of carried turns, back and once too often:"
-    )?;
-    let mut pile = Carry::over(Carry::over(legs));
-    show_shift(rt, &mut pile, 2, 0)?;
-    show_shift(rt, &mut pile, 2, 0)
+// Three stations in a row: the heaviest can only be relieved through the middle one.
+fn stations(heap: Global) -> Result<Vec<Leg>, AllocError> {
+    [
+        Leg {
+            a: 0,
+            b: 1,
+            passages: 6,
+        },
+        Leg {
+            a: 1,
+            b: 2,
+            passages: 5,
+        },
+    ].to_vec(heap)
 }

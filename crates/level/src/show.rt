@@ -25,13 +25,16 @@ pub fn show_reach<S: BaseSystem>(rt: &LibcRuntime, s: &S, i: u8) -> io::Result<(
     requires { ⌜ Stands (S·BaseSystem .bases (now s)) (S·BaseSystem .loads (now s)) (S·BaseSystem .top (now s)) ⌝ }
 {
     match s.reach(i) {
-        Ok(reach) => show_set(rt, i, reach),
+        Ok(reach) => {
+            print!(rt, "reach of station {i}:")?;
+            show_set(rt, reach)
+        }
         Err(fault) => show_fault(rt, fault),
     }
 }
 
-fn show_set(rt: &LibcRuntime, i: u8, set: u64) -> io::Result<()> {
-    print!(rt, "reach of station {i}:")?;
+// The seats of a set, to the end of the line.
+pub fn show_set(rt: &LibcRuntime, set: u64) -> io::Result<()> {
     let mut left = set;
     while let Some(seat) = take_lowest(&mut left) {
         print!(rt, " {seat}")?;

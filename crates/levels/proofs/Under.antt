@@ -32,10 +32,10 @@ pub record Under {S : Type 0} (seats : S → ℕ) (bases : S → List ℕ → Ty
   pub squared : ByWhole above → squares (loads b) + 2 * made ≤ squares (loads a)
 
 module _ {S : Type 0} (seats : S → ℕ) (bases : S → List ℕ → Type 0) (loads : S → List ℕ) (top : S → ℕ) (shifted : S → ℕ → ℕ → ℕ → S → Type 0)
-         (few : (s : S) → seats s ≤ 64) (width : (s : S) (x : List ℕ) → bases s x → length x ≡ seats s) (high : (s : S) (x : List ℕ) → bases s x → (i : ℕ) → getD x i 0 ≤ top s)
-         (exchange : (s : S) → Exchange (bases s)) (moves : (a b : S) (i j count : ℕ) → shifted a i j count b → loads b ≡ moved (loads a) i j)
-         (keeps : (a b : S) (i j count : ℕ) → shifted a i j count b → Same (bases a) (bases b))
-         (above : ℕ → ℕ → ℕ → ℕ → Bool) (grades : Grades above) (a : S) where
+    (few : (s : S) → seats s ≤ 64) (width : (s : S) (x : List ℕ) → bases s x → length x ≡ seats s) (high : (s : S) (x : List ℕ) → bases s x → (i : ℕ) → getD x i 0 ≤ top s)
+    (exchange : (s : S) → Exchange (bases s)) (moves : (a b : S) (i j count : ℕ) → shifted a i j count b → loads b ≡ moved (loads a) i j)
+    (keeps : (a b : S) (i j count : ℕ) → shifted a i j count b → Same (bases a) (bases b))
+    (above : ℕ → ℕ → ℕ → ℕ → Bool) (grades : Grades above) (a : S) where
   -- at first nothing is done
   pub not-begun : Stands (bases a) (loads a) (top a) → Under seats bases loads top shifted above a a 0
   not-begun stands = record { steps = start; same = λ x. (λ h. h, λ h. h); stands = stands; squared = λ whole. omega arith }
@@ -48,10 +48,10 @@ module _ {S : Type 0} (seats : S → ℕ) (bases : S → List ℕ → Type 0) (l
     same = λ x. (λ h. keeps b c i j count shift x .0 (under .same x .0 h), λ h. under .same x .1 (keeps b c i j count shift x .1 h));
     stands = stands;
     squared = λ whole.
-      (let fall = squares-fall (bases b) (exchange b) (seats b) (width b) (few b) (top b) (under .stands .1) (high b) above grades whole (loads b) (under .stands .0) i j (chosen .receiver .has) in
-       let e = ap squares (moves b c i j count shift) in
-       let so-far = under .squared whole in
-       omega arith);
+        (let fall = squares-fall (bases b) (exchange b) (seats b) (width b) (few b) (top b) (under .stands .1) (high b) above grades whole (loads b) (under .stands .0) i j (chosen .receiver .has) in
+        let e = ap squares (moves b c i j count shift) in
+        let so-far = under .squared whole in
+        omega arith);
   }
 
   module _ (b : S) (made : ℕ) (under : Under seats bases loads top shifted above a b made) where

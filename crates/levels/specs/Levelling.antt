@@ -22,7 +22,7 @@ pub data Levelled {S : Type 0} (bases : S → List ℕ → Type 0) (loads : S �
     (above : ℕ → ℕ → ℕ → ℕ → Bool) (a : S) : ℕ → S → Type 0 where
   start : Levelled bases loads shifted above a 0 a
   further : {made : ℕ} {b c : S} (i j count : ℕ) → Levelled bases loads shifted above a made b → Chosen (bases b) above (loads b) i j → shifted b i j count c
-    → Levelled bases loads shifted above a (suc made) c
+      → Levelled bases loads shifted above a (suc made) c
 
 -- The answer within a budget: level with the number of steps made when no step is left, and spent when the budget is made and
 -- another step exists. A budget above 999,999 is refused, and nothing is done.

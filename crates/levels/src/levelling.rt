@@ -13,7 +13,11 @@ use steps::find_step;
 const MOST_STEPS: u32 = 999_999;
 
 // Takes the best step as long as there is one and the budget lasts.
-pub fn level<S: BaseSystem, G: Grading>(s: &mut S, grading: &G, budget: u32) -> Result<Answer, Fault>
+pub fn level<S: BaseSystem, G: Grading>(
+    s: &mut S,
+    grading: &G,
+    budget: u32,
+) -> Result<Answer, Fault>
     requires { ⌜ Stands (S·BaseSystem .bases (now s)) (S·BaseSystem .loads (now s)) (S·BaseSystem .top (now s)) ⌝ }
     ensures says { λ r. ⌜ LevelSays (S·BaseSystem .bases) (S·BaseSystem .loads) (S·BaseSystem .shifted) (S·BaseSystem .layer (now (s .entry))) (G·Grading .above (now (grading .entry))) budget (now (s .entry)) (now (s .exit)) r ⌝ }
     ensures promised { λ r. ⌜ Promised (S·BaseSystem .bases (now (s .entry))) (G·Grading .above (now (grading .entry))) budget (S·BaseSystem .loads (now (s .entry))) (S·BaseSystem .loads (now (s .exit))) r ⌝ }

@@ -73,8 +73,8 @@ module _ (better : ℕ → ℕ → Bool) (P : ℕ → Type 0) (set : ℕ) where
 
   -- the order of the seats with P: of two at most one is better, and where a is better than b, each c is behind a or better than b
   module _ (one-way : (a b : ℕ) → P a → P b → T (better a b) → T (better b a) → ⊥)
-           (between : (a b c : ℕ) → P a → P b → P c → T (better a b) → T (better a c) ⊎ T (better c b))
-           (left left′ c : ℕ) (taken : Taken left left′ c) (here : P c) where
+      (between : (a b c : ℕ) → P a → P b → P c → T (better a b) → T (better a c) ⊎ T (better c b))
+      (left left′ c : ℕ) (taken : Taken left left′ c) (here : P c) where
     -- no seat goes before itself
     itself : (b : ℕ) → b ≡ c → Before better b c → ⊥
     itself b e (inl up) = let u = subst (λ (k : ℕ). T (better k c)) e up in one-way c c here here u u
@@ -92,7 +92,6 @@ module _ (better : ℕ → ℕ → Bool) (P : ℕ → Type 0) (set : ℕ) where
     }
 
     module _ (a : ℕ) (w : Walk better P set left (Some a)) where
-
       -- a better one takes its place
       pub better-found : T (better c a) → Walk better P set left′ (Some c)
       better-found up = record {

@@ -33,8 +33,8 @@ receivers B above x i reach exact (Some j) foremost = record {
 }
 
 module _ (B : List ℕ → Type 0) (ex : Exchange B) (n : ℕ) (width : (x : List ℕ) → B x → length x ≡ n) (few : n ≤ 64)
-         (top : ℕ) (low : top ≤ 999999) (high : (x : List ℕ) → B x → (i : ℕ) → getD x i 0 ≤ top)
-         (above : ℕ → ℕ → ℕ → ℕ → Bool) (grades : Grades above) (x : List ℕ) (hx : B x) where
+    (top : ℕ) (low : top ≤ 999999) (high : (x : List ℕ) → B x → (i : ℕ) → getD x i 0 ≤ top)
+    (above : ℕ → ℕ → ℕ → ℕ → Bool) (grades : Grades above) (x : List ℕ) (hx : B x) where
   -- the last unit of a seat that has one
   last : (i : ℕ) → 0 < getD x i 0 → Unit-of i (getD x i 0)
   last = last-unit B n width few top low high x hx
@@ -72,15 +72,15 @@ module _ (B : List ℕ → Type 0) (ex : Exchange B) (n : ℕ) (width : (x : Lis
         back : i ≡ j → ⊥
         back e =
             ⊎-elim not-above
-              (λ up. grades .rises i (getD x i 0) (getD x i 0 + 1) (last i has) (subst (λ (m : ℕ). Unit-of m (getD x m 0 + 1)) (sym e) coming) (omega arith)
-                (subst (λ (m : ℕ). T (above i (getD x i 0) m (getD x m 0 + 1))) (sym e) up))
-              (grades .between k (getD x k 0) j (getD x j 0 + 1) i (getD x i 0) units coming (last i has) (s .graded))
+            (λ up. grades .rises i (getD x i 0) (getD x i 0 + 1) (last i has) (subst (λ (m : ℕ). Unit-of m (getD x m 0 + 1)) (sym e) coming) (omega arith)
+            (subst (λ (m : ℕ). T (above i (getD x i 0) m (getD x m 0 + 1))) (sym e) up))
+            (grades .between k (getD x k 0) j (getD x j 0 + 1) i (getD x i 0) units coming (last i has) (s .graded))
 
         on : (i ≡ j → ⊥) → ⊥
         on ne =
             ⊎-elim not-above
-              (λ up. none j (record { reach = reach-joins B ex n width x hx i k j ne ik (s .reach); graded = up }))
-              (grades .between k (getD x k 0) j (getD x j 0 + 1) i (getD x i 0) units coming (last i has) (s .graded))
+            (λ up. none j (record { reach = reach-joins B ex n width x hx i k j ne ik (s .reach); graded = up }))
+            (grades .between k (getD x k 0) j (getD x j 0 + 1) i (getD x i 0) units coming (last i has) (s .graded))
 
   -- of the seats `left`, outside of which no seat gives a step, i is the foremost donor
   module _ (left i : ℕ) (out : (k j : ℕ) → (In k left → ⊥) → Step B above x k j → ⊥) (first : Foremost (betterDonor above x) (λ k. In k left × (0 < getD x k 0)) i) where
@@ -99,12 +99,12 @@ module _ (B : List ℕ → Type 0) (ex : Exchange B) (n : ℕ) (width : (x : Lis
         → ((j : ℕ) → Step B above x i j → ⊥) → (k j : ℕ) → (In k left′ → ⊥) → Step B above x k j → ⊥
     left-out left′ reach dropped small exact inserted removed none k j gone s =
         ⊎-elim
-          (λ h. ⊎-elim
-            (λ d. ⊎-elim
-              (λ r. none-further i (first .has .1) none k (exact k .0 r) (λ up. first .none-before k (h, s .reach .gives) (inl up)) j s)
-              (λ (e : k ≡ i). none j (subst (λ (m : ℕ). Step B above x m j) e s)) (inserted .members small k .0 d))
-            (λ no-drop. gone (removed k .1 (h, no-drop))) (in-or-not k dropped))
-          (λ no-more. out k j no-more s) (in-or-not k left)
+        (λ h. ⊎-elim
+        (λ d. ⊎-elim
+        (λ r. none-further i (first .has .1) none k (exact k .0 r) (λ up. first .none-before k (h, s .reach .gives) (inl up)) j s)
+        (λ (e : k ≡ i). none j (subst (λ (m : ℕ). Step B above x m j) e s)) (inserted .members small k .0 d))
+        (λ no-drop. gone (removed k .1 (h, no-drop))) (in-or-not k dropped))
+        (λ no-more. out k j no-more s) (in-or-not k left)
 
     -- and so fewer are left
     pub fewer-left : (left′ reach dropped : ℕ) → i < 64 → left < 2 ^ 64 → left′ < 2 ^ 64 → Inserted reach i dropped → Removed left dropped left′ → ones left′ < ones left

@@ -16,7 +16,11 @@ use std::test::*;
 
 #[test]
 fn replaces_one_number(rt: LibcRuntime) -> Result<(), Fail> {
-    let row = [Leg { a: 0, b: 1, passages: 4 }].to_vec(rt.alloc())?;
+    let row = [Leg {
+        a: 0,
+        b: 1,
+        passages: 4,
+    }].to_vec(rt.alloc())?;
     let mut pile = Carry::over(Divided::over(LegTable::new(2, row)?));
     check_eq(pile.carry(1, 3), Ok(()))?;
     check_eq(pile.load(1)?, 3)?;
@@ -31,21 +35,38 @@ fn replaces_one_number(rt: LibcRuntime) -> Result<(), Fail> {
 
 #[test]
 fn limits_of_a_number(rt: LibcRuntime) -> Result<(), Fail> {
-    let row = [Leg { a: 0, b: 1, passages: 1_000 }].to_vec(rt.alloc())?;
+    let row = [Leg {
+        a: 0,
+        b: 1,
+        passages: 1_000,
+    }].to_vec(rt.alloc())?;
     let mut pile = Carry::over(Divided::over(LegTable::new(2, row)?));
-    check_eq(pile.carry(2, 900_001), Err(Fault::at_seat(Reason::NoSuchSeat, 2, Kind::Carry)))?;
-    check_eq(pile.carry(0, 900_001), Err(Fault::nowhere(Reason::BeyondLimits, Kind::Carry)))?;
+    check_eq(
+        pile.carry(2, 900_001),
+        Err(Fault::at_seat(Reason::NoSuchSeat, 2, Kind::Carry)),
+    )?;
+    check_eq(
+        pile.carry(0, 900_001),
+        Err(Fault::nowhere(Reason::BeyondLimits, Kind::Carry)),
+    )?;
     check_eq(pile.carry(0, 900_000), Ok(()))?;
     check_eq(pile.ceiling(), 901_000)
 }
 
 #[test]
 fn limits_of_the_ceiling(rt: LibcRuntime) -> Result<(), Fail> {
-    let row = [Leg { a: 0, b: 1, passages: 999 }].to_vec(rt.alloc())?;
+    let row = [Leg {
+        a: 0,
+        b: 1,
+        passages: 999,
+    }].to_vec(rt.alloc())?;
     let mut pile = Carry::over(Divided::over(LegTable::new(2, row)?));
     check_eq(pile.carry(0, 900_000), Ok(()))?;
     let mut higher = Carry::over(pile);
-    check_eq(higher.carry(1, 99_001), Err(Fault::at_seat(Reason::CeilingPassed, 1, Kind::Carry)))?;
+    check_eq(
+        higher.carry(1, 99_001),
+        Err(Fault::at_seat(Reason::CeilingPassed, 1, Kind::Carry)),
+    )?;
     check_eq(higher.ceiling(), 900_999)?;
     check_eq(higher.carry(1, 99_000), Ok(()))?;
     check_eq(higher.ceiling(), 999_999)

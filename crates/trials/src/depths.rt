@@ -18,23 +18,42 @@ use std::test::*;
 
 // The bottom's refusal of a receiver, seen from so many layers above.
 fn no_such_base(receiver: u8, depth: u32) -> Fault {
-    Fault { reason: Reason::NoSuchBase, place: Place::Seat(receiver), kind: Kind::Legs, depth }
+    Fault {
+        reason: Reason::NoSuchBase,
+        place: Place::Seat(receiver),
+        kind: Kind::Legs,
+        depth,
+    }
 }
 
 #[test]
 fn through_two_layers(rt: LibcRuntime) -> Result<(), Fail> {
-    let row = [Leg { a: 0, b: 1, passages: 1 }].to_vec(rt.alloc())?;
+    let row = [Leg {
+        a: 0,
+        b: 1,
+        passages: 1,
+    }].to_vec(rt.alloc())?;
     let mut pile = Carry::over(Carry::over(Divided::over(LegTable::new(2, row)?)));
     check_eq(pile.shift(1, 0), Err(no_such_base(0, 2)))?;
-    check_eq(pile.shift(2, 0), Err(Fault::at_seat(Reason::NoSuchSeat, 2, Kind::Carry)))
+    check_eq(
+        pile.shift(2, 0),
+        Err(Fault::at_seat(Reason::NoSuchSeat, 2, Kind::Carry)),
+    )
 }
 
 #[test]
 fn through_three_layers(rt: LibcRuntime) -> Result<(), Fail> {
-    let row = [Leg { a: 0, b: 1, passages: 1 }].to_vec(rt.alloc())?;
+    let row = [Leg {
+        a: 0,
+        b: 1,
+        passages: 1,
+    }].to_vec(rt.alloc())?;
     let mut pile = Carry::over(Carry::over(Carry::over(Divided::over(LegTable::new(2, row)?))));
     check_eq(pile.shift(1, 0), Err(no_such_base(0, 3)))?;
-    check_eq(pile.shift(0, 0), Err(Fault::at_seat(Reason::SeatsEqual, 0, Kind::Carry)))
+    check_eq(
+        pile.shift(0, 0),
+        Err(Fault::at_seat(Reason::SeatsEqual, 0, Kind::Carry)),
+    )
 }
 
 #[test]

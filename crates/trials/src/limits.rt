@@ -22,7 +22,11 @@ fn refused(heap: Global, seats: u8, leg: Leg) -> Result<Option<Fault>, AllocErro
 
 // The fault of so many equal legs, if they are refused.
 fn refused_many(heap: Global, count: usize) -> Result<Option<Fault>, AllocError> {
-    let legs = vec![in heap; Leg { a: 0, b: 1, passages: 1_000 }; count]?;
+    let legs = vec![in heap; Leg {
+        a: 0,
+        b: 1,
+        passages: 1_000
+    }; count]?;
     match LegTable::new(2, legs) {
         Ok(table) => {
             if table.ceiling() != 256_000 {
@@ -38,22 +42,132 @@ fn refused_many(heap: Global, count: usize) -> Result<Option<Fault>, AllocError>
 fn seats_and_ends(rt: LibcRuntime) -> Result<(), Fail> {
     let beyond = Some(Fault::nowhere(Reason::BeyondLimits, Kind::Legs));
     let heap = rt.alloc();
-    check_eq(refused(heap, 0, Leg { a: 0, b: 1, passages: 1 })?, beyond)?;
-    check_eq(refused(heap, 1, Leg { a: 0, b: 1, passages: 1 })?, Some(Fault::at_seat(Reason::NoSuchSeat, 1, Kind::Legs)))?;
-    check_eq(refused(heap, 2, Leg { a: 0, b: 1, passages: 1 })?, None)?;
-    check_eq(refused(heap, 64, Leg { a: 63, b: 0, passages: 1 })?, None)?;
-    check_eq(refused(heap, 64, Leg { a: 64, b: 64, passages: 0 })?, Some(Fault::at_seat(Reason::NoSuchSeat, 64, Kind::Legs)))?;
-    check_eq(refused(heap, 65, Leg { a: 0, b: 1, passages: 1 })?, beyond)?;
-    check_eq(refused(heap, 9, Leg { a: 7, b: 7, passages: 0 })?, Some(Fault::at_seat(Reason::SeatsEqual, 7, Kind::Legs)))
+    check_eq(
+        refused(
+            heap,
+            0,
+            Leg {
+                a: 0,
+                b: 1,
+                passages: 1,
+            },
+        )?,
+        beyond,
+    )?;
+    check_eq(
+        refused(
+            heap,
+            1,
+            Leg {
+                a: 0,
+                b: 1,
+                passages: 1,
+            },
+        )?,
+        Some(Fault::at_seat(Reason::NoSuchSeat, 1, Kind::Legs)),
+    )?;
+    check_eq(
+        refused(
+            heap,
+            2,
+            Leg {
+                a: 0,
+                b: 1,
+                passages: 1,
+            },
+        )?,
+        None,
+    )?;
+    check_eq(
+        refused(
+            heap,
+            64,
+            Leg {
+                a: 63,
+                b: 0,
+                passages: 1,
+            },
+        )?,
+        None,
+    )?;
+    check_eq(
+        refused(
+            heap,
+            64,
+            Leg {
+                a: 64,
+                b: 64,
+                passages: 0,
+            },
+        )?,
+        Some(Fault::at_seat(Reason::NoSuchSeat, 64, Kind::Legs)),
+    )?;
+    check_eq(
+        refused(
+            heap,
+            65,
+            Leg {
+                a: 0,
+                b: 1,
+                passages: 1,
+            },
+        )?,
+        beyond,
+    )?;
+    check_eq(
+        refused(
+            heap,
+            9,
+            Leg {
+                a: 7,
+                b: 7,
+                passages: 0,
+            },
+        )?,
+        Some(Fault::at_seat(Reason::SeatsEqual, 7, Kind::Legs)),
+    )
 }
 
 #[test]
 fn passages_and_legs(rt: LibcRuntime) -> Result<(), Fail> {
     let beyond = Some(Fault::nowhere(Reason::BeyondLimits, Kind::Legs));
     let heap = rt.alloc();
-    check_eq(refused(heap, 2, Leg { a: 0, b: 1, passages: 0 })?, beyond)?;
-    check_eq(refused(heap, 2, Leg { a: 1, b: 0, passages: 1_000 })?, None)?;
-    check_eq(refused(heap, 2, Leg { a: 0, b: 1, passages: 1_001 })?, beyond)?;
+    check_eq(
+        refused(
+            heap,
+            2,
+            Leg {
+                a: 0,
+                b: 1,
+                passages: 0,
+            },
+        )?,
+        beyond,
+    )?;
+    check_eq(
+        refused(
+            heap,
+            2,
+            Leg {
+                a: 1,
+                b: 0,
+                passages: 1_000,
+            },
+        )?,
+        None,
+    )?;
+    check_eq(
+        refused(
+            heap,
+            2,
+            Leg {
+                a: 0,
+                b: 1,
+                passages: 1_001,
+            },
+        )?,
+        beyond,
+    )?;
     check_eq(refused_many(heap, 256)?, None)?;
     check_eq(refused_many(heap, 257)?, beyond)
 }

@@ -11,7 +11,12 @@ use std::test::*;
 
 #[test]
 fn sizes_and_members() -> Result<(), Fail> {
-    for (set, members, highest) in [(0, 0, false), (0b1011, 3, false), (u64::MAX, 64, true), (1 << 63, 1, true)] {
+    for (set, members, highest) in [
+        (0, 0, false),
+        (0b1011, 3, false),
+        (u64::MAX, 64, true),
+        (1 << 63, 1, true),
+    ] {
         check_eq(size(set), members)?;
         check_eq(has(set, 63), highest)?;
         check_eq(has(set, 64), false)?;
@@ -21,7 +26,14 @@ fn sizes_and_members() -> Result<(), Fail> {
 
 #[test]
 fn first_seats() -> Result<(), Fail> {
-    for (n, set) in [(0, 0), (1, 1), (3, 0b111), (63, u64::MAX / 2), (64, u64::MAX), (65, u64::MAX)] {
+    for (n, set) in [
+        (0, 0),
+        (1, 1),
+        (3, 0b111),
+        (63, u64::MAX / 2),
+        (64, u64::MAX),
+        (65, u64::MAX),
+    ] {
         check_eq(first(n), set)?;
     }
     Ok(())

@@ -10,12 +10,14 @@ pub loop-i-holds : need.loop-i-holds
 loop-i-holds g c =
     let b = g .S·BaseSystem in
     let laws = g .S·BaseSystem·met in
-    let s = c .args .s .now in
-    (c .first-left .ok, λ k j out step. out (c .first-left .ensures k .1 (
-      let seat = seat-of (b .loads s) k (step .reach .gives) in
-      let w = laws .width s (b .loads s) (c .pre .0) in
-      let few = laws .few s .1 in
-      (omega (arith, c .count .ensures), omega arith))))
+    let s = c .args .s .now in (
+      c .first-left .ok,
+      λ k j out step. out (c .first-left .ensures k .1 (
+          let seat = seat-of (b .loads s) k (step .reach .gives) in
+          let w = laws .width s (b .loads s) (c .pre .0) in
+          let few = laws .few s .1 in
+          (omega (arith, c .count .ensures), omega arith))),
+    )
 
 pub best-receiver-requires : need.best-receiver-requires
 best-receiver-requires g c κs = (c .pre, c .reach-of-reach .ensures)
@@ -53,9 +55,10 @@ loop-i-again g c =
     let grades = g .G·Grading·met .order (c .args .grading .now) in
     let i = c .in-Some .i in
     let donor = c .in-Some .ensures tt in
-    let low : c .in-Some .i < 64 = (let seat = seat-of x i (donor .has .1) in let w = laws .width s x (c .pre .0) in let few = laws .few s .1 in omega arith) in
-    (c .without-left .ok,
-      left-out (b .bases s) (laws .exchange s) (b .seats s) (laws .width s) (laws .few s .1) (b .top s) (c .pre .1) (laws .high s) above grades x (c .pre .0) (c .loop-i .left) i (c .loop-i .inv .1) donor (c .without-left .result) (c .reach-of-reach .result) (c .with .result) low (c .reach-of-reach .ensures) (c .with .ensures) (c .without-left .ensures) (c .in-rest-best-receiver .ensures tt))
+    let low : c .in-Some .i < 64 = (let seat = seat-of x i (donor .has .1) in let w = laws .width s x (c .pre .0) in let few = laws .few s .1 in omega arith) in (
+      c .without-left .ok,
+      left-out (b .bases s) (laws .exchange s) (b .seats s) (laws .width s) (laws .few s .1) (b .top s) (c .pre .1) (laws .high s) above grades x (c .pre .0) (c .loop-i .left) i (c .loop-i .inv .1) donor (c .without-left .result) (c .reach-of-reach .result) (c .with .result) low (c .reach-of-reach .ensures) (c .with .ensures) (c .without-left .ensures) (c .in-rest-best-receiver .ensures tt),
+    )
 
 -- where no seat that is left has a unit, there is no step
 pub returns : need.returns

@@ -43,7 +43,7 @@ loop-j-again-then-better-receiver g c =
     let graded = tested above x i (c .standing-load-last .result) j (c .next-unit .result) (c .is-above .result) true (c .is-above .ensures) (c .standing-load-last .ensures) (c .next-unit .ensures) (c .if-is-above .taken) in
     let member = c .loop-j .inv .inside j (c .in-Some .ensures tt .lowest .member) in
     walk-taken (betterReceiver above x) (λ k. Step (b .bases s) above x i k) (c .args .reach) one-way between (c .loop-j .left) (c .take-lowest .last .left) j (c .in-Some .ensures tt)
-      (record { reach = c .pre .1 j .0 member; graded = subst T (sym graded) tt }) (c .loop-j .best) (sym (c .better-receiver .ensures) ∙ c .if-better-receiver .taken) (c .loop-j .inv)
+    (record { reach = c .pre .1 j .0 member; graded = subst T (sym graded) tt }) (c .loop-j .best) (sym (c .better-receiver .ensures) ∙ c .if-better-receiver .taken) (c .loop-j .inv)
 
 pub loop-j-again : need.loop-j-again
 loop-j-again g c =
@@ -59,14 +59,14 @@ loop-j-again g c =
     let j = c .in-Some .j in
     let member = c .loop-j .inv .inside j (c .in-Some .ensures tt .lowest .member) in
     elim (c .else-is-above .came) [
-      else-is-above·by·then-is-above·else-better-receiver w ↦
-        (let graded = tested above x i (c .standing-load-last .result) j (c .next-unit .result) (c .is-above .result) true (c .is-above .ensures) (c .standing-load-last .ensures) (c .next-unit .ensures) (w .if-is-above .taken) in
-         walk-kept (betterReceiver above x) (λ k. Step (b .bases s) above x i k) (c .args .reach) one-way between (c .loop-j .left) (c .take-lowest .last .left) j (c .in-Some .ensures tt)
-           (record { reach = c .pre .1 j .0 member; graded = subst T (sym graded) tt }) (c .loop-j .best) (sym (w .better-receiver .ensures) ∙ w .if-better-receiver .left) (c .loop-j .inv))
-    | else-is-above·by·else-is-above w ↦
-        (let graded = tested above x i (c .standing-load-last .result) j (c .next-unit .result) (c .is-above .result) false (c .is-above .ensures) (c .standing-load-last .ensures) (c .next-unit .ensures) (w .if-is-above .left) in
-         passed-over (betterReceiver above x) (λ k. Step (b .bases s) above x i k) (c .args .reach) (c .loop-j .left) (c .take-lowest .last .left) j (c .loop-j .best) (c .loop-j .inv) (c .in-Some .ensures tt)
-           (λ step. subst T graded (step .graded)))
+      | else-is-above·by·then-is-above·else-better-receiver w ↦
+          (let graded = tested above x i (c .standing-load-last .result) j (c .next-unit .result) (c .is-above .result) true (c .is-above .ensures) (c .standing-load-last .ensures) (c .next-unit .ensures) (w .if-is-above .taken) in
+          walk-kept (betterReceiver above x) (λ k. Step (b .bases s) above x i k) (c .args .reach) one-way between (c .loop-j .left) (c .take-lowest .last .left) j (c .in-Some .ensures tt)
+          (record { reach = c .pre .1 j .0 member; graded = subst T (sym graded) tt }) (c .loop-j .best) (sym (w .better-receiver .ensures) ∙ w .if-better-receiver .left) (c .loop-j .inv))
+      | else-is-above·by·else-is-above w ↦
+          (let graded = tested above x i (c .standing-load-last .result) j (c .next-unit .result) (c .is-above .result) false (c .is-above .ensures) (c .standing-load-last .ensures) (c .next-unit .ensures) (w .if-is-above .left) in
+          passed-over (betterReceiver above x) (λ k. Step (b .bases s) above x i k) (c .args .reach) (c .loop-j .left) (c .take-lowest .last .left) j (c .loop-j .best) (c .loop-j .inv) (c .in-Some .ensures tt)
+          (λ step. subst T graded (step .graded)))
     ]
 
 -- every receiver of a step lies in the reach
@@ -78,5 +78,5 @@ returns g c =
     let i = c .args .i in
     let above = g .G·Grading .above (c .args .grading .now) in
     receivers (b .bases s) above x i (c .args .reach) (c .pre .1) (c .loop-j .best)
-      (all-walked (betterReceiver above x) (λ k. Step (b .bases s) above x i k) (c .args .reach) (c .loop-j .best)
-        (subst (λ (left : ℕ). Walk (betterReceiver above x) (λ k. Step (b .bases s) above x i k) (c .args .reach) left (c .loop-j .best)) (c .in-rest .ensures tt .0) (c .loop-j .inv)))
+    (all-walked (betterReceiver above x) (λ k. Step (b .bases s) above x i k) (c .args .reach) (c .loop-j .best)
+    (subst (λ (left : ℕ). Walk (betterReceiver above x) (λ k. Step (b .bases s) above x i k) (c .args .reach) left (c .loop-j .best)) (c .in-rest .ensures tt .0) (c .loop-j .inv)))

@@ -1,0 +1,5 @@
+pub mod Answering
+pub mod Certified
+pub mod Counting
+pub mod Filling
+pub mod Gathering

@@ -1,0 +1,4 @@
+pub mod Dividing
+pub mod TwoSeats
+pub mod ByShares
+pub mod WithCarried
