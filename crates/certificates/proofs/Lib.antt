@@ -3,3 +3,4 @@ pub mod Certified
 pub mod Counting
 pub mod Filling
 pub mod Gathering
+pub mod Lasting

@@ -9,4 +9,5 @@ mod values;
 pub use checking::check;
 pub use making::certify;
 pub use row::CertRow;
+pub use theorem::a_certificate_lasts;
 pub use theorem::a_table_passes_exactly_when_level;
