@@ -4,6 +4,7 @@ ghost use mathlib.Core.List.{List};
 ghost use Prim.Native.Nat.{ℕ};
 ghost use lib.ListN.{getD};
 ghost use Rattle.std.specs.shelf.Lists.{sum};
+ghost use Rattle.seats.specs.Sets.{In, Exactly};
 ghost use Rattle.bases.specs.Exchange.{Reaches};
 ghost use Rattle.bases.specs.Says.{Stands};
 use crate::system::BaseSystem;
@@ -15,6 +16,17 @@ pub fn standing_load<S: BaseSystem>(s: &S, i: u8) -> u32
 {
     match s.load(i) {
         Ok(load) => load,
+        Err(_) => 0,
+    }
+}
+
+// The seats in the reach of seat i; none where i is no seat.
+pub fn standing_reach<S: BaseSystem>(s: &S, i: u8) -> u64
+    requires { ⌜ Stands (S·BaseSystem .bases (now s)) (S·BaseSystem .loads (now s)) (S·BaseSystem .top (now s)) ⌝ }
+    ensures { λ r. ⌜ ((j : ℕ) → Exactly (In j r) (Reaches (S·BaseSystem .bases (now (s .entry))) (S·BaseSystem .loads (now (s .entry))) i j)) ⌝ }
+{
+    match s.reach(i) {
+        Ok(reach) => reach,
         Err(_) => 0,
     }
 }

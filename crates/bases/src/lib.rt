@@ -8,6 +8,7 @@ pub use given::pair_given;
 pub use given::seat_given;
 pub use laws::reach_is_transitive;
 pub use laws::standing_load;
+pub use laws::standing_reach;
 pub use laws::total;
 pub use rows::Rows;
 pub use system::BaseSystem;

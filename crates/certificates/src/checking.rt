@@ -8,9 +8,9 @@ ghost use Rattle.optima.specs.Costs.{heaviest};
 ghost use Rattle.optima.specs.Steps.{LevelBy};
 ghost use Rattle.certificates.specs.Tables.{Accepts, AllPass, Closed, Covered, Fits, HasValue, Passes};
 use crate::row::CertRow;
-use crate::sets::reach_of;
 use bases::BaseSystem;
 use bases::standing_load;
+use bases::standing_reach;
 use seats::first;
 use seats::has;
 use seats::within;
@@ -68,7 +68,7 @@ fn closed<S: BaseSystem>(s: &S, set: u64) -> bool
     ensures { λ r. ⌜ When r (Closed (S·BaseSystem .bases (now (s .entry))) (S·BaseSystem .loads (now (s .entry))) set) (Closed (S·BaseSystem .bases (now (s .entry))) (S·BaseSystem .loads (now (s .entry))) set → ⊥) ⌝ }
 {
     for i in 0..s.count() {
-        if has(set, i) && !within(reach_of(s, i), set) {
+        if has(set, i) && !within(standing_reach(s, i), set) {
             return false;
         }
     }

@@ -1,24 +1,11 @@
 // The set of seats of a row.
-ghost use Prim.Native.Nat.{ℕ};
-ghost use Rattle.seats.specs.Sets.{In, Exactly};
-ghost use Rattle.bases.specs.Exchange.{Reaches};
 ghost use Rattle.bases.specs.Says.{Stands};
 ghost use Rattle.certificates.specs.Tables.{RowFor};
 use bases::BaseSystem;
 use bases::standing_load;
+use bases::standing_reach;
 use seats::union;
 use seats::with;
-
-// The seats in the reach of i; none where i is no seat.
-pub fn reach_of<S: BaseSystem>(s: &S, i: u8) -> u64
-    requires { ⌜ Stands (S·BaseSystem .bases (now s)) (S·BaseSystem .loads (now s)) (S·BaseSystem .top (now s)) ⌝ }
-    ensures { λ r. ⌜ ((j : ℕ) → Exactly (In j r) (Reaches (S·BaseSystem .bases (now (s .entry))) (S·BaseSystem .loads (now (s .entry))) i j)) ⌝ }
-{
-    match s.reach(i) {
-        Ok(reach) => reach,
-        Err(_) => 0,
-    }
-}
 
 // The seats with at least this load, and all seats in their reach.
 pub fn row_set<S: BaseSystem>(s: &S, value: u32) -> u64
@@ -28,7 +15,7 @@ pub fn row_set<S: BaseSystem>(s: &S, value: u32) -> u64
     let mut set = 0;
     for i in 0..s.count() {
         if standing_load(s, i) >= value {
-            set = union(with(set, i), reach_of(s, i));
+            set = union(with(set, i), standing_reach(s, i));
         }
     }
     set

@@ -1,6 +1,6 @@
 // Base systems of divided items: reach and shift through chains of links.
-pub mod back;
-pub mod spread;
+mod back;
+mod spread;
 pub mod system;
 
 pub use system::Divided;

@@ -5,8 +5,8 @@ ghost use Rattle.optima.specs.Steps.{LevelBy};
 ghost use Rattle.steps.specs.Chosen.{Chosen};
 use crate::donors::best_donor;
 use crate::receivers::best_receiver;
-use crate::units::reach_of;
 use bases::BaseSystem;
+use bases::standing_reach;
 use grades::Grading;
 use seats::first;
 use seats::with;
@@ -20,7 +20,7 @@ pub fn find_step<S: BaseSystem, G: Grading>(s: &S, grading: &G) -> Option<(u8, u
 {
     let mut left = first(s.count());
     while let Some(i) = best_donor(s, grading, left) {
-        let reach = reach_of(s, i);
+        let reach = standing_reach(s, i);
         if let Some(j) = best_receiver(s, grading, i, reach) {
             return Some((i, j));
         }

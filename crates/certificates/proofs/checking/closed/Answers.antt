@@ -3,7 +3,7 @@ use Rattle.bases.proofs.Moves.{seat-of}
 use Rattle.certificates.proofs.checking.closed.Needs as need
 
 pub returns-then-not-within : need.returns-then-not-within
-returns-then-not-within g c all = c .if-not-within .ensures tt (λ j h. all (c .loop-i .i) j (c .if-has .ensures tt) (c .reach-of .ensures j .0 h))
+returns-then-not-within g c all = c .if-not-within .ensures tt (λ j h. all (c .loop-i .i) j (c .if-has .ensures tt) (c .standing-reach .ensures j .0 h))
 
 pub returns : need.returns
 returns g c i j member r =

@@ -19,9 +19,9 @@ loop-i-again g c =
     elim (c .if-standing-load-value .came) [
       | then-standing-load-value w ↦
           subst (λ (set : ℕ). (j : ℕ) → Exactly (In j set) (Gathered (b .bases s) (b .loads s) (c .args .value) (m + 1) j)) (sym (w .set-is))
-          (gather-more (b .bases s) (b .loads s) (c .args .value) m (c .loop-i .set) (w .with .result) (w .reach-of .result) (w .union-set .result)
+          (gather-more (b .bases s) (b .loads s) (c .args .value) m (c .loop-i .set) (w .with .result) (w .standing-reach .result) (w .union-set .result)
           (omega (arith, c .count-i-end .ensures)) (omega (arith, c .standing-load .ensures, w .if-standing-load-value .taken))
-          (w .with .ensures) (w .union-set .ensures) (w .reach-of .ensures) (c .loop-i .inv))
+          (w .with .ensures) (w .union-set .ensures) (w .standing-reach .ensures) (c .loop-i .inv))
       | else-standing-load-value w ↦
           subst (λ (set : ℕ). (j : ℕ) → Exactly (In j set) (Gathered (b .bases s) (b .loads s) (c .args .value) (m + 1) j)) (sym (w .set-is))
           (gather-skip (b .bases s) (b .loads s) (c .args .value) m (c .loop-i .set) (omega (arith, c .standing-load .ensures, w .if-standing-load-value .left)) (c .loop-i .inv))

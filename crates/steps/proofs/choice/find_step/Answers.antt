@@ -20,7 +20,7 @@ loop-i-holds g c =
     )
 
 pub best-receiver-requires : need.best-receiver-requires
-best-receiver-requires g c κs = (c .pre, c .reach-of-reach .ensures)
+best-receiver-requires g c κs = (c .pre, c .standing-reach-reach .ensures)
 
 pub returns-in-Some-best-receiver : need.returns-in-Some-best-receiver
 returns-in-Some-best-receiver g c =
@@ -43,7 +43,7 @@ loop-i-less g c =
     let i = c .in-Some .i in
     let donor = c .in-Some .ensures tt in
     let low : c .in-Some .i < 64 = (let seat = seat-of x i (donor .has .1) in let w = laws .width s x (c .pre .0) in let few = laws .few s .1 in omega arith) in
-    fewer-left (b .bases s) (laws .exchange s) (b .seats s) (laws .width s) (laws .few s .1) (b .top s) (c .pre .1) (laws .high s) above grades x (c .pre .0) (c .loop-i .left) i (c .loop-i .inv .1) donor (c .without-left .result) (c .reach-of-reach .result) (c .with .result) low (c .loop-i .inv .0) (c .without-left .ok) (c .with .ensures) (c .without-left .ensures)
+    fewer-left (b .bases s) (laws .exchange s) (b .seats s) (laws .width s) (laws .few s .1) (b .top s) (c .pre .1) (laws .high s) above grades x (c .pre .0) (c .loop-i .left) i (c .loop-i .inv .1) donor (c .without-left .result) (c .standing-reach-reach .result) (c .with .result) low (c .loop-i .inv .0) (c .without-left .ok) (c .with .ensures) (c .without-left .ensures)
 
 pub loop-i-again : need.loop-i-again
 loop-i-again g c =
@@ -57,7 +57,7 @@ loop-i-again g c =
     let donor = c .in-Some .ensures tt in
     let low : c .in-Some .i < 64 = (let seat = seat-of x i (donor .has .1) in let w = laws .width s x (c .pre .0) in let few = laws .few s .1 in omega arith) in (
       c .without-left .ok,
-      left-out (b .bases s) (laws .exchange s) (b .seats s) (laws .width s) (laws .few s .1) (b .top s) (c .pre .1) (laws .high s) above grades x (c .pre .0) (c .loop-i .left) i (c .loop-i .inv .1) donor (c .without-left .result) (c .reach-of-reach .result) (c .with .result) low (c .reach-of-reach .ensures) (c .with .ensures) (c .without-left .ensures) (c .in-rest-best-receiver .ensures tt),
+      left-out (b .bases s) (laws .exchange s) (b .seats s) (laws .width s) (laws .few s .1) (b .top s) (c .pre .1) (laws .high s) above grades x (c .pre .0) (c .loop-i .left) i (c .loop-i .inv .1) donor (c .without-left .result) (c .standing-reach-reach .result) (c .with .result) low (c .standing-reach-reach .ensures) (c .with .ensures) (c .without-left .ensures) (c .in-rest-best-receiver .ensures tt),
     )
 
 -- where no seat that is left has a unit, there is no step

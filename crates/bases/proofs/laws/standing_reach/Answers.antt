@@ -1,8 +1,8 @@
 -- What is no seat reaches nothing.
 use native.Mathlib.Omega.{arith}
 use Rattle.seats.proofs.Members.{in-none}
 use Rattle.bases.proofs.Moves.{seat-of}
-use Rattle.steps.proofs.units.reach_of.Needs as need
+use Rattle.bases.proofs.laws.standing_reach.Needs as need
 
 pub returns-in-Err : need.returns-in-Err
 returns-in-Err g c j = (
