@@ -111,7 +111,7 @@ pub fn check<S: BaseSystem>(s: &S, rows: &[CertRow]) -> bool
     requires { ⌜ Stands (S·BaseSystem .bases (now s)) (S·BaseSystem .loads (now s)) (S·BaseSystem .top (now s)) ⌝ }
     ensures answers { λ r. ⌜ When r (Accepts (S·BaseSystem .bases (now (s .entry))) (S·BaseSystem .loads (now (s .entry))) (now (rows .entry))) (Accepts (S·BaseSystem .bases (now (s .entry))) (S·BaseSystem .loads (now (s .entry))) (now (rows .entry)) → ⊥) ⌝ }
     ensures levels { λ _. ⌜ (Accepts (S·BaseSystem .bases (now (s .entry))) (S·BaseSystem .loads (now (s .entry))) (now (rows .entry)) → LevelBy (S·BaseSystem .bases (now (s .entry))) whole (S·BaseSystem .loads (now (s .entry)))) ⌝ }
-    ensures lightest { λ _. ⌜ (Accepts (S·BaseSystem .bases (now (s .entry))) (S·BaseSystem .loads (now (s .entry))) (now (rows .entry)) → (k : ℕ) (y : List ℕ) → S·BaseSystem .bases (now (s .entry)) y → heaviest k (S·BaseSystem .loads (now (s .entry))) ≤ heaviest k y) ⌝ }
+    ensures heaviest_least { λ _. ⌜ (Accepts (S·BaseSystem .bases (now (s .entry))) (S·BaseSystem .loads (now (s .entry))) (now (rows .entry)) → (k : ℕ) (y : List ℕ) → S·BaseSystem .bases (now (s .entry)) y → heaviest k (S·BaseSystem .loads (now (s .entry))) ≤ heaviest k y) ⌝ }
 {
     if !all_covered(s, rows) {
         return false;

@@ -52,6 +52,9 @@ fn report(rt: &LibcRuntime, name: &str, table: LegTable, start: Instant) -> io::
     };
     let elapsed = start.elapsed(rt)?;
     println!(rt, "{name}: {steps} steps")?;
-    let micros = elapsed.as_micros();
-    eprintln!(rt, "{name}: {micros} microseconds for {steps} steps")
+    if steps > 0 {
+        let each = elapsed.as_nanos() / u128::from(steps);
+        eprintln!(rt, "{name}: {each} nanoseconds a step")?;
+    }
+    Ok(())
 }

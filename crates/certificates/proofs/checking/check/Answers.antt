@@ -13,7 +13,7 @@ returns-then-not-all-covered g c =
     record {
       answers = λ a. c .if-not-all-covered .ensures tt (a .covers);
       levels = accepts-level (b .bases s) (laws .exchange s) (b .seats s) (laws .width s) (laws .few s .1) (b .top s) (c .pre .1) (laws .high s) x (c .pre .0) rows;
-      lightest = accepts-heaviest (b .bases s) (laws .exchange s) (b .seats s) (laws .width s) (laws .few s .1) (b .top s) (c .pre .1) (laws .high s) x (c .pre .0) rows;
+      heaviest-least = accepts-heaviest (b .bases s) (laws .exchange s) (b .seats s) (laws .width s) (laws .few s .1) (b .top s) (c .pre .1) (laws .high s) x (c .pre .0) rows;
     }
 
 pub returns : need.returns
@@ -27,5 +27,5 @@ returns g c =
       answers = when-same (c .all-pass .result) (AllPass (b .bases s) x rows) (Accepts (b .bases s) x rows)
           (λ p. record { covers = c .if-not-all-covered .ensures tt; passes = p }) (λ a. a .passes) (c .all-pass .ensures);
       levels = accepts-level (b .bases s) (laws .exchange s) (b .seats s) (laws .width s) (laws .few s .1) (b .top s) (c .pre .1) (laws .high s) x (c .pre .0) rows;
-      lightest = accepts-heaviest (b .bases s) (laws .exchange s) (b .seats s) (laws .width s) (laws .few s .1) (b .top s) (c .pre .1) (laws .high s) x (c .pre .0) rows;
+      heaviest-least = accepts-heaviest (b .bases s) (laws .exchange s) (b .seats s) (laws .width s) (laws .few s .1) (b .top s) (c .pre .1) (laws .high s) x (c .pre .0) rows;
     }
