@@ -1,10 +1,8 @@
 // Checking a certificate.
-ghost use mathlib.Core.List.{List};
-ghost use Prim.Native.Nat.{ℕ, _≤_};
 ghost use Rattle.std.specs.Orderings.{When};
 ghost use Rattle.bases.specs.Says.{Stands};
 ghost use Rattle.grades.specs.Grades.{whole};
-ghost use Rattle.optima.specs.Costs.{heaviest};
+ghost use Rattle.optima.specs.Costs.{HeaviestLeast};
 ghost use Rattle.optima.specs.Steps.{LevelBy};
 ghost use Rattle.certificates.specs.Tables.{Accepts, AllPass, Closed, Covered, Fits, HasValue, Passes};
 use crate::row::CertRow;
@@ -111,7 +109,7 @@ pub fn check<S: BaseSystem>(s: &S, rows: &[CertRow]) -> bool
     requires { ⌜ Stands (S·BaseSystem .bases (now s)) (S·BaseSystem .loads (now s)) (S·BaseSystem .top (now s)) ⌝ }
     ensures answers { λ r. ⌜ When r (Accepts (S·BaseSystem .bases (now (s .entry))) (S·BaseSystem .loads (now (s .entry))) (now (rows .entry))) (Accepts (S·BaseSystem .bases (now (s .entry))) (S·BaseSystem .loads (now (s .entry))) (now (rows .entry)) → ⊥) ⌝ }
     ensures levels { λ _. ⌜ (Accepts (S·BaseSystem .bases (now (s .entry))) (S·BaseSystem .loads (now (s .entry))) (now (rows .entry)) → LevelBy (S·BaseSystem .bases (now (s .entry))) whole (S·BaseSystem .loads (now (s .entry)))) ⌝ }
-    ensures heaviest_least { λ _. ⌜ (Accepts (S·BaseSystem .bases (now (s .entry))) (S·BaseSystem .loads (now (s .entry))) (now (rows .entry)) → (k : ℕ) (y : List ℕ) → S·BaseSystem .bases (now (s .entry)) y → heaviest k (S·BaseSystem .loads (now (s .entry))) ≤ heaviest k y) ⌝ }
+    ensures heaviest_least { λ _. ⌜ (Accepts (S·BaseSystem .bases (now (s .entry))) (S·BaseSystem .loads (now (s .entry))) (now (rows .entry)) → HeaviestLeast (S·BaseSystem .bases (now (s .entry))) (S·BaseSystem .loads (now (s .entry)))) ⌝ }
 {
     if !all_covered(s, rows) {
         return false;

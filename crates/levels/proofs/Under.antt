@@ -20,7 +20,7 @@ use Rattle.optima.proofs.Squares.{squares-fall}
 use Rattle.steps.specs.Chosen.{Chosen}
 use Rattle.levels.specs.declared.answer.Answer.{Answer}
 use Rattle.levels.specs.declared.answer.Answer.the-variants.{Level, Spent}
-use Rattle.levels.specs.Levelling.{Levelled, Kindest, HeaviestLeast, Promised}
+use Rattle.levels.specs.Levelling.{Levelled, Promised}
 use Rattle.levels.specs.Levelling.Levelled.{start, further}
 
 -- After so many steps from a, at b: the bases, the seats and the ceiling are the same, b stands, and by whole loads the squares have fallen.

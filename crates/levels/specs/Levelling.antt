@@ -9,9 +9,9 @@ use Rattle.faults.specs.declared.Fault.{Fault}
 use Rattle.faults.specs.declared.Kind.{Kind}
 use Rattle.faults.specs.declared.Reason.the-variants.{BeyondLimits}
 use Rattle.faults.specs.Places.{faultNowhere}
-use Rattle.grades.specs.Grades.{Unit-of, ByWhole}
+use Rattle.grades.specs.Grades.{ByWhole}
 use Rattle.optima.specs.Steps.{Step, LevelBy}
-use Rattle.optima.specs.Costs.{unitsAbove, heaviest, squares}
+use Rattle.optima.specs.Costs.{squares, Kindest, HeaviestLeast}
 use Rattle.steps.specs.Chosen.{Chosen}
 use Rattle.levels.specs.declared.answer.Answer.{Answer}
 use Rattle.levels.specs.declared.answer.Answer.the-variants.{Level, Spent}
@@ -44,14 +44,6 @@ abbrev pub stepsOf : ℕ → Result Answer Fault → ℕ
 stepsOf budget (Ok (Level made)) = made
 stepsOf budget (Ok Spent) = budget
 stepsOf budget (Err fault) = 0
-
--- no base is kinder: each has, for every unit of work, at least as many units graded above that unit
-abbrev pub Kindest : (List ℕ → Type 0) → (ℕ → ℕ → ℕ → ℕ → Bool) → List ℕ → Type 0
-Kindest B above x = (j v : ℕ) → Unit-of j v → (y : List ℕ) → B y → unitsAbove above x j v ≤ unitsAbove above y j v
-
--- for each k, the k heaviest loads of every base add up to at least those of x
-abbrev pub HeaviestLeast : (List ℕ → Type 0) → List ℕ → Type 0
-HeaviestLeast B x = (k : ℕ) (y : List ℕ) → B y → heaviest k x ≤ heaviest k y
 
 -- What is promised of a levelling from the loads x to the loads y, where the bases B are open to it: if it ends level, no base is
 -- kinder; if it does so by whole loads, the k heaviest are least; and by whole loads twice its steps is at most the fall of the squares.

@@ -6,6 +6,7 @@ use lib.Dec.{leb}
 use lib.ListN.{length, getD, take}
 use Rattle.std.specs.shelf.Lists.{sum}
 use Rattle.bases.specs.Sums.{sumTo}
+use Rattle.grades.specs.Grades.{Unit-of}
 
 -- the cost of all units of all seats, where unit u of seat i costs `unit-cost i u`
 abbrev pub cost : (ℕ → ℕ → ℕ) → List ℕ → ℕ
@@ -32,3 +33,11 @@ heaviest k x = sum (take k (falling x))
 -- the sum of the squared loads
 abbrev pub squares : List ℕ → ℕ
 squares x = sumTo (length x) (λ i. getD x i 0 * getD x i 0)
+
+-- no base is kinder: each has, for every unit of work, at least as many units graded above that unit
+abbrev pub Kindest : (List ℕ → Type 0) → (ℕ → ℕ → ℕ → ℕ → Bool) → List ℕ → Type 0
+Kindest B above x = (j v : ℕ) → Unit-of j v → (y : List ℕ) → B y → unitsAbove above x j v ≤ unitsAbove above y j v
+
+-- for each k, the k heaviest loads of every base add up to at least those of x
+abbrev pub HeaviestLeast : (List ℕ → Type 0) → List ℕ → Type 0
+HeaviestLeast B x = (k : ℕ) (y : List ℕ) → B y → heaviest k x ≤ heaviest k y
