@@ -1,11 +1,11 @@
 -- What follows from the exchange law of any set of load lists.
 use Rattle.std.proofs.Common.{◌≡◌, ℕ, zero, suc, ◌+◌, ◌-◌, ◌<◌, ◌≤◌, ◌⊎◌, List, length, get_or, sum, sym, refl, ap, ◌∙◌, subst, inl, inr, ⊎_elim, arith}
-use Rattle.std.proofs.lemmas.List.{ext_get_or, get_or_past}
+use Rattle.std.proofs.lemmas.List.{ext_get_or}
 use Rattle.std.proofs.lemmas.Bool.{cases_lt, cases_eq}
 use Rattle.bases.specs.Sums.{sum_to, unit}
 use Rattle.bases.specs.Exchange.{Exchange, Reaches, moved}
 use Rattle.bases.proofs.Sums.{unit_here, unit_other, sum_none, sum_same, sum_add, sum_unit, some_larger, term_le}
-use Rattle.bases.proofs.Moves.{length_moved, moved_at, moved_to, moved_from, moved_other, moved_is, sum_moved, seat_of}
+use Rattle.bases.proofs.Moves.{length_moved, moved_at, moved_to, moved_from, moved_is, sum_moved, seat_of}
 
 -- how much of x lies above y
 abbrev pub excess : List ℕ → List ℕ → ℕ

@@ -1,6 +1,6 @@
 -- Load lists, moves of one unit, and the exchange law of a set of load lists.
 -- A load list has one load for each seat; a base is a load list that is lawful.
-use Rattle.std.specs.Prelude.{◌≡◌, ℕ, ◌+◌, ◌-◌, ◌<◌, List, length, set, slice_index, slice_set}
+use Rattle.std.specs.Prelude.{◌≡◌, ℕ, ◌+◌, ◌-◌, ◌<◌, List, length, slice_index, slice_set}
 
 -- x with one unit moved from seat i to seat j
 abbrev pub moved : List ℕ → ℕ → ℕ → List ℕ

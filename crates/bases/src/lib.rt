@@ -1,4 +1,6 @@
 // Base systems: what every bottom and every layer of a pile is, and what follows from the exchange law.
+#![tactic(auto)]
+
 pub mod given;
 pub mod laws;
 pub mod rows;

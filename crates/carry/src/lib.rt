@@ -1,4 +1,6 @@
 // A layer that carries a number for each seat, which is added to that seat's load in every base.
+#![tactic(auto)]
+
 ghost use Rattle.std.specs.Prelude.{◌≡◌, ℕ, ◌+◌, ◌<◌, MatchResult, slice_index, refl};
 ghost use Rattle.std.proofs.Common.{ap₂, sym, ◌∙◌, ap, rules};
 ghost use Rattle.faults.specs.declared.Kind.TheVariants.{Carry as CarryKind};

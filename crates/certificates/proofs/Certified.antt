@@ -1,18 +1,17 @@
 -- A table that is accepted shows that a base is level by whole loads, and the certificate of a level base is accepted.
-use Rattle.std.proofs.Common.{◌≡◌, ℕ, ◌+◌, ◌<◌, ◌≤◌, ◌⊎◌, List, length, get_or, sym, refl, subst, inl, inr, ⊎_elim, arith, lt→ltb}
+use Rattle.std.proofs.Common.{◌≡◌, ℕ, ◌+◌, ◌<◌, ◌≤◌, ◌⊎◌, List, length, get_or, subst, inl, inr, ⊎_elim, arith, lt→ltb}
 use Rattle.std.proofs.lemmas.Bool.{cases_lt, cases_eq}
-use Rattle.seats.specs.Sets.{In}
 use Rattle.bases.specs.Exchange.{Exchange, Reaches}
 use Rattle.bases.proofs.Moves.{seat_of}
 use Rattle.bases.proofs.Toward.{reach_joins}
 use Rattle.grades.specs.Grades.{whole}
 use Rattle.grades.specs.Numbers.{whole_grades, whole_by_whole}
-use Rattle.optima.specs.Steps.{Step, LevelBy}
+use Rattle.optima.specs.Steps.{LevelBy}
 use Rattle.optima.specs.Costs.{heaviest}
 use Rattle.optima.proofs.Squares.{step_wide}
 use Rattle.optima.proofs.Heaviest.{level_heaviest}
 use Rattle.certificates.specs.declared.row.CertRow.{CertRow}
-use Rattle.certificates.specs.Tables.{row_at, Fits, Passes, Accepts, RowFor, Certifies}
+use Rattle.certificates.specs.Tables.{row_at, Passes, Accepts, RowFor, Certifies}
 
 module _ (B : List ℕ → Type 0) (ex : Exchange B) (n : ℕ) (width : (x : List ℕ) → B x → length x ≡ n) (few : n ≤ 64)
     (top : ℕ) (low : top ≤ 999999) (high : (x : List ℕ) → B x → (i : ℕ) → get_or x i 0 ≤ top) (x : List ℕ) (hx : B x) where

@@ -1,5 +1,5 @@
 -- A table that is accepted for some bases and loads is accepted for the same bases and loads under any other name.
-use Rattle.std.proofs.Common.{◌≡◌, ℕ, ◌<◌, List, length, subst}
+use Rattle.std.proofs.Common.{◌≡◌, ℕ, List, subst}
 use Rattle.bases.specs.Exchange.{Same, Reaches, moved}
 use Rattle.certificates.specs.declared.row.CertRow.{CertRow}
 use Rattle.certificates.specs.Tables.{Passes, Accepts, row_at}

@@ -1,4 +1,6 @@
 // Certificates: tables of rows which show that the standing base is level by whole loads.
+#![tactic(auto)]
+
 pub mod checking;
 pub mod making;
 pub mod row;

@@ -15,7 +15,7 @@ use steps::find_step;
 // Writes one row for each different positive load, the highest first, and answers how many.
 fn fill<S: BaseSystem>(s: &S, table: &mut [CertRow]) -> usize
     requires stands { Stands (S.BaseSystem.bases s.now) (S.BaseSystem.loads s.now) (S.BaseSystem.top s.now) }
-    requires s_in_bounds { different_loads (S.BaseSystem.loads s.now) ≤ length table.old }
+    requires room { different_loads (S.BaseSystem.loads s.now) ≤ length table.old }
     ensures { Filled (S.BaseSystem.bases s.now) (S.BaseSystem.loads s.now) table.old table.new result }
 {
     let mut count = 0;

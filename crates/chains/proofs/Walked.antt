@@ -1,12 +1,11 @@
 -- Going back along a chain from its last seat j, and relaying one unit at each link.
-use Rattle.std.proofs.Common.{◌≡◌, ℕ, zero, suc, ◌+◌, ◌-◌, ◌*◌, ◌<◌, ◌≤◌, min, ◌⊎◌, List, length, get_or, sym, refl, ap, ◌∙◌, subst, inl, inr, ⊎_elim, one-mul, mul-zero, zero-mul, mul-one, arith}
-use Rattle.std.proofs.lemmas.Bool.{cases_eq}
+use Rattle.std.proofs.Common.{◌≡◌, ℕ, ◌+◌, ◌-◌, ◌*◌, ◌<◌, ◌≤◌, min, List, get_or, sym, refl, ap, ◌∙◌, ⊎_elim, one-mul, zero-mul, arith}
 use Rattle.seats.specs.Sets.{In}
-use Rattle.seats.proofs.Digits.{digit, digit_lt}
+use Rattle.seats.proofs.Digits.{digit}
 use Rattle.seats.proofs.Members.{in_or_nought}
 use Rattle.bases.specs.Sums.{unit, sum_to}
 use Rattle.bases.proofs.Sums.{sum_none}
-use Rattle.items.specs.Fillings.{Shape, Fills, Link, Relayed, load_of, unit_at, changed}
+use Rattle.items.specs.Fillings.{Shape, Fills, Link, Relayed, load_of, changed}
 use Rattle.items.proofs.Units.{unit_at_seat, relayed_load, relayed_changed}
 use Rattle.items.proofs.Weights.{weighed_move}
 use Rattle.chains.specs.Chains.{Distances, Passed}

@@ -1,15 +1,15 @@
 -- The seats that links lead to are exactly the seats in reach.
-use Rattle.std.specs.Prelude.{◌≡◌, ℕ, zero, suc, ◌+◌, ◌-◌, ◌*◌, ◌<◌, ◌≤◌, ◌⊎◌, List, length, ◌≢◌, slice_index, slice_index_or, refl}
-use Rattle.std.proofs.Common.{sym, ap, ◌∙◌, subst, inl, inr}
+use Rattle.std.specs.Prelude.{◌≡◌, ℕ, zero, suc, ◌+◌, ◌-◌, ◌<◌, ◌≤◌, List, length, ◌≢◌, slice_index, slice_index_or, refl}
+use Rattle.std.proofs.Common.{sym, ap, ◌∙◌, subst}
 use Rattle.std.proofs.Math.Logic.{⊎_elim}
 use Rattle.std.proofs.Math.Nat.{zero-mul}
 use native.Mathlib.Omega.{arith}
 use Rattle.std.proofs.lemmas.Bool.{cases_eq}
 use Rattle.seats.specs.Sets.{In}
-use Rattle.seats.proofs.Digits.{digit, digit_lt}
+use Rattle.seats.proofs.Digits.{digit}
 use Rattle.seats.proofs.Members.{in_or_not, in_or_nought, out_nought}
 use Rattle.bases.specs.Sums.{unit}
-use Rattle.bases.specs.Exchange.{Reaches, moved}
+use Rattle.bases.specs.Exchange.{Reaches}
 use Rattle.bases.proofs.Moves.{moved_at}
 use Rattle.bases.proofs.Toward.{reach_joins}
 use Rattle.items.specs.Fillings.{Shape, Fills, Link, Divisions, load_of, loads_of, changed}

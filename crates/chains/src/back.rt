@@ -9,8 +9,8 @@ use items::Division;
 // Relays one unit along the chain from i to j, and answers the number of links.
 pub fn relay_back<D: Division>(division: &mut D, spread: &Spread, i: u8, j: u8) -> u32
     requires distances { Distances (D.Division.shape division.old) (D.Division.amount division.old) i spread.now.seen spread.now.from spread.now.far }
-    requires fact { In j spread.now.seen }
-    requires j_nonzero { j ≢ i }
+    requires reached { In j spread.now.seen }
+    requires apart { j ≢ i }
     ensures passes { Passed (D.Division.shape division.old) (D.Division.amount division.old) (D.Division.amount division.new) i j result }
     ensures keeps { (D.Division.shape division.new ≡ D.Division.shape division.old) × (D.Division.most division.new ≡ D.Division.most division.old) × (D.Division.sort division.new ≡ D.Division.sort division.old) }
 {

@@ -30,7 +30,7 @@ impl Spread {
     // Follows every link from the seats of `edge`, which are `depth` links away, and answers the seats found.
     fn further<D: Division>(&mut self, division: &D, i: u8, edge: u64, depth: u8) -> u64
         requires spreading { Spreading (D.Division.shape division.now) (D.Division.amount division.now) i self.old.seen self.old.from self.old.far edge 0 depth }
-        requires depth_bound { depth < 64 }
+        requires near { depth < 64 }
         ensures { Spreading (D.Division.shape division.now) (D.Division.amount division.now) i self.new.seen self.new.from self.new.far 0 result depth }
     {
         let mut left = edge;

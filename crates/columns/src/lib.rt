@@ -1,4 +1,6 @@
 // Columns of a page: a number or a word in a given number of bytes.
+#![tactic(auto)]
+
 pub mod numbers;
 pub mod words;
 

@@ -1,4 +1,6 @@
 // Reading a page from left to right, one column after another.
+#![tactic(auto)]
+
 pub mod cursor;
 mod lists;
 mod steps;

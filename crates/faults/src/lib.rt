@@ -1,4 +1,6 @@
 // A refusal: its reason, its place, the layer that gave it, and how deep that layer lies.
+#![tactic(auto)]
+
 ghost use Rattle.std.specs.Prelude.{◌≡◌};
 ghost use Rattle.faults.specs.Reasons.{number_of};
 ghost use Rattle.faults.specs.Depth.{deepened, raised, passed_up};

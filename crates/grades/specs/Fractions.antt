@@ -1,5 +1,5 @@
 -- Gradings by fractions.
-use Rattle.std.specs.Prelude.{ℕ, ◌*◌, ◌<◌, ◌≤◌, ◌⊎◌}
+use Rattle.std.specs.Prelude.{ℕ, ◌*◌, ◌≤◌}
 use Rattle.std.proofs.Common.{inl, inr, ⊎_elim, mul-le-mul_right, le_of_mul-le-mul_right, mul_right_comm, arith, ltb→lt, lt→ltb}
 use Rattle.std.proofs.lemmas.Bool.{cases_lt}
 use Rattle.grades.specs.Grades.{Grades}

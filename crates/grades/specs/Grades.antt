@@ -1,5 +1,5 @@
 -- Gradings: which of two units of work is graded above the other. Unit u of seat i is the u-th unit that i has.
-use Rattle.std.specs.Prelude.{◌≡◌, ℕ, ◌<◌, ◌≤◌, Bool, true, false, T, ◌⊎◌, nat_lt}
+use Rattle.std.specs.Prelude.{◌≡◌, ℕ, ◌<◌, ◌≤◌, Bool, T, ◌⊎◌, nat_lt}
 
 -- a unit of work: a seat from 0 to 63, and a number from 1 to 999,999
 pub record UnitOf (i u : ℕ) : Type 0 where

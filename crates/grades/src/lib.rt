@@ -1,4 +1,6 @@
 // Gradings of units of work.
+#![tactic(auto)]
+
 pub mod cap;
 pub mod favour;
 pub mod grading;

@@ -1,11 +1,11 @@
 -- The exchange law of divisions: two fillings exchange a unit through fillings that lie between them.
-use Rattle.std.proofs.Common.{◌≡◌, ℕ, zero, suc, ◌+◌, ◌-◌, ◌*◌, ◌<◌, ◌≤◌, min, max, ◌⊎◌, List, length, get_or, sym, refl, ap, ◌∙◌, subst, ap₂, inl, inr, ⊎_elim, arith}
+use Rattle.std.proofs.Common.{◌≡◌, ℕ, zero, suc, ◌+◌, ◌-◌, ◌<◌, ◌≤◌, min, max, List, get_or, sym, refl, ap, ◌∙◌, subst, ap₂, ⊎_elim, arith}
 use Rattle.std.proofs.lemmas.Bool.{cases_eq, cases_lt}
-use Rattle.bases.specs.Sums.{sum_to, unit}
+use Rattle.bases.specs.Sums.{unit}
 use Rattle.bases.specs.Exchange.{Exchange, moved}
 use Rattle.bases.proofs.Sums.{unit_here, unit_other, sum_add, sum_unit, some_larger}
 use Rattle.items.specs.Fillings.{Shape, Fills, load_of, loads_of, Divisions, unit_at, Relayed, changed}
-use Rattle.items.proofs.Units.{unit_at_here, unit_at_item, unit_at_seat, whole_unit, grid_same, grid_add, length_loads, loads_at, loaded, relayed_load, given, given_relays, given_fills, moved_loads}
+use Rattle.items.proofs.Units.{unit_at_here, unit_at_item, unit_at_seat, whole_unit, grid_same, grid_add, loads_at, loaded, relayed_load, given, given_relays, given_fills, moved_loads}
 
 -- h lies between f and g
 pub record Amid (shape : Shape) (f g h : ℕ → ℕ → ℕ) : Type 0 where

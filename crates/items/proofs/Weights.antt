@@ -1,8 +1,8 @@
 -- Weighing two fillings: where a weight rises by at most e along each link, the weighted loads rise by at most e for each unit that changes hands.
-use Rattle.std.proofs.Common.{◌≡◌, ℕ, zero, suc, ◌+◌, ◌-◌, ◌*◌, ◌<◌, ◌≤◌, ◌⊎◌, sym, refl, ap, ◌∙◌, subst, ap₂, inl, inr, ⊎_elim, mul-le-mul_right, mul_comm, add-mul, mul-le-mul_left, mul-zero, mul-one, mul-add, arith}
+use Rattle.std.proofs.Common.{◌≡◌, ℕ, zero, suc, ◌+◌, ◌-◌, ◌*◌, ◌<◌, ◌≤◌, ◌⊎◌, sym, ap, ◌∙◌, subst, inl, inr, ⊎_elim, mul-le-mul_right, add-mul, mul-le-mul_left, mul-zero, mul-one, mul-add, arith}
 use Rattle.std.proofs.lemmas.Bool.{cases_eq, cases_lt}
 use Rattle.bases.specs.Sums.{sum_to, unit}
-use Rattle.bases.proofs.Sums.{unit_here, unit_other, sum_same, sum_le, sum_add, sum_none, sum_times, sum_unit, sum_swap, term_le}
+use Rattle.bases.proofs.Sums.{unit_other, sum_same, sum_le, sum_add, sum_none, sum_times, sum_unit, sum_swap, term_le}
 use Rattle.items.specs.Fillings.{Shape, Fills, load_of, Link, changed}
 
 -- of the seats that have more in f than in g, one has the least weight; or there is none

@@ -1,4 +1,6 @@
 // Items that are divided among seats: what turns and legs have in common.
+#![tactic(auto)]
+
 pub mod division;
 pub mod recorded;
 

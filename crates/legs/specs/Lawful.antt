@@ -1,5 +1,5 @@
 -- When a table of legs keeps its limits.
-use Rattle.std.specs.Prelude.{◌≡◌, ℕ, ◌<◌, ◌≤◌, List, length, ◌≢◌, slice_index, slice_index_or}
+use Rattle.std.specs.Prelude.{ℕ, ◌<◌, ◌≤◌, List, length, ◌≢◌, slice_index, slice_index_or}
 use Rattle.legs.specs.declared.leg.Leg.{Leg}
 
 -- leg t; past the last one, a leg of zeros

@@ -1,4 +1,6 @@
 // Legs: passages between two seats, divided between them.
+#![tactic(auto)]
+
 pub mod division;
 pub mod leg;
 mod limits;

@@ -1,4 +1,6 @@
 // Examples of what the planner does: relief through a chain, a plan with its certificate, a plan by shares.
+#![tactic(auto)]
+
 mod plans;
 mod relief;
 mod show;

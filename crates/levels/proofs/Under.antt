@@ -1,17 +1,15 @@
 -- A levelling under way.
-use Rattle.std.proofs.Common.{◌≡◌, ℕ, suc, ◌+◌, ◌*◌, ◌<◌, ◌≤◌, Bool, List, length, get_or, Ok, Err, Result, sym, refl, ap, ◌∙◌, subst, add-one, arith}
-use Rattle.faults.specs.declared.Fault.{Fault}
-use Rattle.bases.specs.Exchange.{Exchange, Same, Reaches, moved}
+use Rattle.std.proofs.Common.{◌≡◌, ℕ, ◌+◌, ◌*◌, ◌≤◌, Bool, List, length, get_or, Ok, sym, ap, subst, add-one, arith}
+use Rattle.bases.specs.Exchange.{Exchange, Same, moved}
 use Rattle.bases.specs.Says.{Stands}
-use Rattle.grades.specs.Grades.{Grades, ByWhole, UnitOf}
-use Rattle.optima.specs.Steps.{Step, LevelBy}
+use Rattle.grades.specs.Grades.{Grades, ByWhole}
+use Rattle.optima.specs.Steps.{LevelBy}
 use Rattle.optima.specs.Costs.{squares}
 use Rattle.optima.proofs.Graded.{level_units}
 use Rattle.optima.proofs.Heaviest.{level_heaviest}
 use Rattle.optima.proofs.Squares.{squares_fall}
 use Rattle.steps.specs.Chosen.{Chosen}
-use Rattle.levels.specs.declared.answer.Answer.{Answer}
-use Rattle.levels.specs.declared.answer.Answer.TheVariants.{Level, Spent}
+use Rattle.levels.specs.declared.answer.Answer.TheVariants.{Level}
 use Rattle.levels.specs.Levelling.{Levelled, Promised}
 use Rattle.levels.specs.Levelling.Levelled.{start, further}
 

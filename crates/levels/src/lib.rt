@@ -1,4 +1,6 @@
 // Levelling: the steps to take, one after another, until none is left or the budget is spent.
+#![tactic(auto)]
+
 pub mod answer;
 pub mod levelling;
 

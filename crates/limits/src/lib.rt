@@ -1,4 +1,5 @@
 // The limits, each given once. The statements cite the same numbers, under names of their own.
+#![tactic(auto)]
 
 // The most seats that a system may have.
 pub const MOST_SEATS: u8 = 64;

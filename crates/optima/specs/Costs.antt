@@ -1,5 +1,5 @@
 -- What a load list costs where each unit has a cost, and the costs that promises speak of.
-use Rattle.std.specs.Prelude.{ℕ, suc, ◌+◌, ◌*◌, ◌≤◌, Bool, true, false, cond, List, [], ◌∷◌, length, take, sum, nat_le, slice_index}
+use Rattle.std.specs.Prelude.{ℕ, suc, ◌*◌, ◌≤◌, Bool, cond, List, [], ◌∷◌, length, take, sum, nat_le, slice_index}
 use Rattle.bases.specs.Sums.{sum_to}
 use Rattle.grades.specs.Grades.{UnitOf}
 

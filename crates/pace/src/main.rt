@@ -1,4 +1,6 @@
 // How long levelling takes: the largest systems of legs, with the time of each on the error output.
+#![tactic(auto)]
+
 use bases::BaseSystem;
 use chains::Divided;
 use faults::Fault;

@@ -1,4 +1,6 @@
 // What a page says: the bottom of a pile, and the orders for its layers.
+#![tactic(auto)]
+
 pub mod bottom;
 pub mod orders;
 pub mod page_limits;

@@ -1,5 +1,5 @@
 -- How many seats belong to a set. Assumes nothing.
-use Rattle.std.proofs.Common.{◌≡◌, ℕ, zero, suc, ◌+◌, ◌-◌, ◌/◌, ◌%◌, ◌^◌, ◌<◌, ◌≤◌, ◌⊎◌, sym, refl, ap, ◌∙◌, inl, inr, ⊎_elim, le_of_eq, mod-lt, zero-lt-suc, arith, pow_pos}
+use Rattle.std.proofs.Common.{◌≡◌, ℕ, zero, suc, ◌+◌, ◌/◌, ◌%◌, ◌^◌, ◌<◌, ◌≤◌, ◌⊎◌, sym, refl, ap, ◌∙◌, inl, inr, ⊎_elim, le_of_eq, mod-lt, zero-lt-suc, arith, pow_pos}
 use lib.Count.{ones, ones_step}
 use Rattle.seats.specs.Sets.{In, Within, Exactly}
 use Rattle.seats.proofs.Digits.{digit_zero, digit_suc, half_lt, even_or_odd}

@@ -1,5 +1,7 @@
 // Sets of seats. A set is a number of 64 bits: bit i is one exactly when seat i belongs.
 // Every function takes every argument; each contract says which seats belong to the answer.
+#![tactic(auto)]
+
 ghost use Rattle.std.specs.Prelude.{◌≡◌, MatchBool, MatchOption, count_ones};
 ghost use Rattle.seats.specs.Sets.{In, Within, Inserted, Joined, Shared, Removed, Below, Lowest, Taken};
 

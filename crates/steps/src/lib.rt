@@ -1,4 +1,6 @@
 // Choosing the step to take.
+#![tactic(auto)]
+
 pub mod choice;
 mod donors;
 mod receivers;

@@ -25,7 +25,7 @@ fn better_receiver<S: BaseSystem, G: Grading>(s: &S, grading: &G, best: Option<u
 // The best receiver of a step from i, whose reach is given.
 pub fn best_receiver<S: BaseSystem, G: Grading>(s: &S, grading: &G, i: u8, reach: u64) -> Option<u8>
     requires stands { Stands (S.BaseSystem.bases s.now) (S.BaseSystem.loads s.now) (S.BaseSystem.top s.now) }
-    requires by_index { (j : ℕ) → Exactly (In j reach) (Reaches (S.BaseSystem.bases s.now) (S.BaseSystem.loads s.now) i j) }
+    requires exact { (j : ℕ) → Exactly (In j reach) (Reaches (S.BaseSystem.bases s.now) (S.BaseSystem.loads s.now) i j) }
     ensures { MatchOption result ((j : ℕ) → Step (S.BaseSystem.bases s.now) (G.Grading.above grading.now) (S.BaseSystem.loads s.now) i j → ⊥) (λ j. Foremost (better_receiver (G.Grading.above grading.now) (S.BaseSystem.loads s.now)) (λ l. Step (S.BaseSystem.bases s.now) (G.Grading.above grading.now) (S.BaseSystem.loads s.now) i l) j) }
 {
     let last = standing_load(s, i);

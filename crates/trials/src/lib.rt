@@ -1,4 +1,6 @@
 // Examples, run: table by table, on both sides of each limit.
+#![tactic(auto)]
+
 #[cfg(test)]
 mod carries;
 #[cfg(test)]

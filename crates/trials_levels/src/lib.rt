@@ -1,4 +1,6 @@
 // Examples of levelling and of certificates, run.
+#![tactic(auto)]
+
 #[cfg(test)]
 mod certified;
 #[cfg(test)]

@@ -1,4 +1,4 @@
-use Rattle.std.proofs.Common.{◌-◌, ◌<◌, arith}
+use Rattle.std.proofs.Common.{◌<◌, arith}
 use Rattle.std.proofs.lemmas.Nat.{one_shl}
 use Rattle.seats.proofs.Members.{below_power}
 use Rattle.seats.proofs.first.Goals as goal

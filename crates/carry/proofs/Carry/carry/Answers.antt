@@ -12,8 +12,8 @@ ceiling-requires g c =
     let s = c.args.self.now.below in
     stands_below (b.bases s) c.args.self.now.table.carried (b.loads s) (b.top s) c.requires
 
-pub overflow-add-ceiling : goal.overflow-add-ceiling
-overflow-add-ceiling g c =
+pub overflow_add-ceiling : goal.overflow_add-ceiling
+overflow_add-ceiling g c =
     let most = largest_set c.args.self.now.table.carried c.args.i c.args.c in
     omega (arith, c.requires.1, c.ceiling.ensures, c.largest.ensures)
 
@@ -26,7 +26,7 @@ returns g c =
     let stands = stands_below (b.bases s) carried (b.loads s) (b.top s) c.requires in
     let low : b.top s + largest new ≤ 999999 = omega (arith, c.ceiling.ensures, c.largest.ensures) in
     record {
-      answers = sym (carry_allowed (b.seats s) (b.top s) carried c.args.i c.args.c (omega (arith, c.count.ensures, c.in-ok-seat-given.ensures)) (omega arith) low);
+      answers = sym (carry_allowed (b.seats s) (b.top s) carried c.args.i c.args.c (omega (arith, c.count.ensures, c.in_ok-seat_given.ensures)) (omega arith) low);
       then = refl {a = carrying c.args.self.now c.args.i c.args.c};
       stands = (base_above (b.bases s) new (b.loads s) stands.0, low);
     }

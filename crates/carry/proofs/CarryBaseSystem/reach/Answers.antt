@@ -6,14 +6,14 @@ use Rattle.carry.specs.Layer.{carried_width, stands_below}
 use Rattle.carry.proofs.Calls.{reach_says}
 use Rattle.carry.proofs.CarryBaseSystem.reach.Goals as goal
 
-pub returns-in-err-seat-given : goal.returns-in-err-seat-given
-returns-in-err-seat-given g c =
+pub returns-in_err-seat_given : goal.returns-in_err-seat_given
+returns-in_err-seat_given g c =
     let b = g.S.BaseSystem in
     let s = c.args.self.now.below in
     let carried = c.args.self.now.table.carried in
     let width = carried_width (b.bases s) carried (b.seats s) (g.met.S.BaseSystem.width s) (added carried (b.loads s)) c.requires.0 in
-    let p = err_from_is_err_and c.from-residual.result c.from-residual.ensures.1 in
-    let past = c.in-err-seat-given.ensures in
+    let p = err_from_is_err_and c.from_residual.result c.from_residual.ensures.1 in
+    let past = c.in_err-seat_given.ensures in
     rw (p.1, p.2) (omega (arith, past.0, c.count.ensures), past.1)
 
 pub reach-requires : goal.reach-requires
@@ -29,5 +29,5 @@ returns g c =
     let carried = c.args.self.now.table.carried in
     let stands = stands_below (b.bases s) carried (b.loads s) (b.top s) c.requires in
     let width = g.met.S.BaseSystem.width s (b.loads s) stands.0 in
-    let seat : c.args.i < length (b.loads s) = omega (arith, c.count.ensures, c.in-ok-seat-given.ensures) in
+    let seat : c.args.i < length (b.loads s) = omega (arith, c.count.ensures, c.in_ok-seat_given.ensures) in
     reach_says (b.loads s) (b.layer s) c.args.i carried (b.bases s) seat c.reach.result _ c.reach.ensures (search rules)

@@ -1,5 +1,5 @@
 -- The layer refuses what is no seat, and else shifts below.
-use Rattle.std.proofs.Common.{◌≡◌, ℕ, ◌<◌, ◌≤◌, get_or, sym, refl, ap, ◌∙◌, arith}
+use Rattle.std.proofs.Common.{◌≡◌, ℕ, ◌<◌, get_or, sym, refl, ap, ◌∙◌, arith}
 use Rattle.faults.specs.declared.Kind.TheVariants.{Carry as CarryKind}
 use Rattle.faults.specs.Depth.{raised}
 use Rattle.bases.specs.Says.{refusal}
@@ -10,14 +10,14 @@ use Rattle.bases.proofs.Refusals.{reach_two, shift_keeps}
 use Rattle.carry.proofs.Calls.{shift_says, refusal_raised}
 use Rattle.carry.proofs.CarryBaseSystem.shift.Goals as goal
 
-pub returns-in-err-pair-given : goal.returns-in-err-pair-given
-returns-in-err-pair-given g c =
+pub returns-in_err-pair_given : goal.returns-in_err-pair_given
+returns-in_err-pair_given g c =
     let b = g.S.BaseSystem in
     let s = c.args.self.now.below in
     let carried = c.args.self.now.table.carried in
     let width = carried_width (b.bases s) carried (b.seats s) (g.met.S.BaseSystem.width s) (added carried (b.loads s)) c.requires.0 in
-    let p = err_from_is_err_and c.from-residual.result c.from-residual.ensures.1 in
-    let due = c.in-err-pair-given.ensures in
+    let p = err_from_is_err_and c.from_residual.result c.from_residual.ensures.1 in
+    let due = c.in_err-pair_given.ensures in
     record {
       says = rw (p.1, p.2) (
         λ r. due.0 (reach_two (Carried carried (b.bases s)) (added carried (b.loads s)) c.args.i c.args.j c.count.result (width ∙ sym c.count.ensures) r),
@@ -41,7 +41,7 @@ returns g c =
     let t = c.shift.new.self in
     let i = c.args.i in
     let j = c.args.j in
-    let given = c.in-ok-pair-given.ensures in
+    let given = c.in_ok-pair_given.ensures in
     let hi : i < b.seats s = omega (arith, c.count.ensures, given.0) in
     let hj : j < b.seats s = omega (arith, c.count.ensures, given.1) in
     let due = refusal (b.seats s) (b.layer s) (b.why s) i j in
@@ -54,7 +54,7 @@ returns g c =
           due (refusal (b.seats s) CarryKind (λ k l. raised (b.why s k l)) i j)
           (λ count. b.shifted s i j count t)
           (λ count. (a.table.carried ≡ a.table.carried) × b.shifted s i j count t × (0 < get_or (b.loads s) i 0))
-          i j c.shift.result c.passed-up.result c.shift.ensures.says c.passed-up.ensures fault
+          i j c.shift.result c.passed_up.result c.shift.ensures.says c.passed_up.ensures fault
           (λ same. ap (λ below. record { below = below; table = a.table }) same) (λ count gives shifted. (refl, shifted, gives));
       stands = (base_above (b.bases t) a.table.carried (b.loads t) below.0, omega (arith, c.requires.1));
     }

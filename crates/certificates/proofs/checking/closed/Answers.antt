@@ -3,7 +3,7 @@ use Rattle.bases.proofs.Moves.{seat_of}
 use Rattle.certificates.proofs.checking.closed.Goals as goal
 
 pub returns-then-not-within : goal.returns-then-not-within
-returns-then-not-within g c all = c.if-not-within.ensures (λ j h. all c.loop-i.i j c.if-has.ensures ((c.standing-reach.ensures j).0 h))
+returns-then-not-within g c all = c.if-not-within.ensures (λ j h. all c.loop-i.i j c.if-has.ensures ((c.standing_reach.ensures j).0 h))
 
 pub returns : goal.returns
 returns g c i j member r =

@@ -8,7 +8,7 @@ returns g c =
     let b = g.S.BaseSystem in
     let laws = g.met.S.BaseSystem in
     let s = c.args.s.now in
-    let level = c.in-default.ensures in (
+    let level = c.in_default.ensures in (
       c.fill.ensures,
       level,
       certifies_accepted (b.bases s) (laws.exchange s) (b.seats s) (laws.width s) (laws.few s).1 (b.top s) c.requires.1 (laws.high s) (b.loads s) c.requires.0 level

@@ -1,8 +1,8 @@
-use Rattle.std.proofs.Common.{◌≡◌, ℕ, ◌+◌, ◌<◌, length, sym, subst, arith}
+use Rattle.std.proofs.Common.{ℕ, ◌+◌, sym, subst, arith}
 use Rattle.seats.specs.Sets.{In, Exactly}
 use Rattle.certificates.proofs.Gathering.{Gathered, gather_none, gather_skip, gather_more, gather_all}
 use Rattle.certificates.proofs.sets.row_set.Goals as goal
-use Rattle.certificates.proofs.sets.row_set.Goals.{then-standing-load-value, else-standing-load-value}
+use Rattle.certificates.proofs.sets.row_set.Goals.{then-standing_load-value, else-standing_load-value}
 
 pub loop-i-init : goal.loop-i-init
 loop-i-init g c = gather_none (g.S.BaseSystem.bases c.args.s.now) (g.S.BaseSystem.loads c.args.s.now) c.args.value
@@ -13,15 +13,15 @@ loop-i-preserved g c =
     let s = c.args.s.now in
     let few = (g.met.S.BaseSystem.few s).1 in
     let m = c.loop-i.i in
-    elim c.if-standing-load-value.branch [
-      | then-standing-load-value w ↦
+    elim c.if-standing_load-value.branch [
+      | then-standing_load-value w ↦
           subst (λ (set : ℕ). (j : ℕ) → Exactly (In j set) (Gathered (b.bases s) (b.loads s) c.args.value (m + 1) j)) (sym w.set-is)
-          (gather_more (b.bases s) (b.loads s) c.args.value m c.loop-i.set w.with.result w.standing-reach.result w.union-set.result
-          (omega (arith, c.count-i-end.ensures)) (omega (arith, c.standing-load.ensures, w.if-standing-load-value.true))
-          w.with.ensures w.union-set.ensures w.standing-reach.ensures c.loop-i.invariant)
-      | else-standing-load-value w ↦
+          (gather_more (b.bases s) (b.loads s) c.args.value m c.loop-i.set w.with.result w.standing_reach.result w.union-set.result
+          (omega (arith, c.count-i-end.ensures)) (omega (arith, c.standing_load.ensures, w.if-standing_load-value.true))
+          w.with.ensures w.union-set.ensures w.standing_reach.ensures c.loop-i.invariant)
+      | else-standing_load-value w ↦
           subst (λ (set : ℕ). (j : ℕ) → Exactly (In j set) (Gathered (b.bases s) (b.loads s) c.args.value (m + 1) j)) (sym w.set-is)
-          (gather_skip (b.bases s) (b.loads s) c.args.value m c.loop-i.set (omega (arith, c.standing-load.ensures, w.if-standing-load-value.false)) c.loop-i.invariant)
+          (gather_skip (b.bases s) (b.loads s) c.args.value m c.loop-i.set (omega (arith, c.standing_load.ensures, w.if-standing_load-value.false)) c.loop-i.invariant)
     ]
 
 pub returns : goal.returns

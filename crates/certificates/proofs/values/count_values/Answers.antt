@@ -1,5 +1,4 @@
-use Rattle.std.proofs.Common.{ℕ, ◌<◌, get_or, ⊎_elim, arith}
-use Rattle.std.proofs.lemmas.Bool.{cases_lt}
+use Rattle.std.proofs.Common.{arith}
 use Rattle.certificates.proofs.Counting.{counting_start, counting_next, counting_room, counting_end, different_few, falls_on}
 use Rattle.certificates.proofs.values.count_values.Goals as goal
 
@@ -7,10 +6,10 @@ pub loop-value-init : goal.loop-value-init
 loop-value-init g c =
     let b = g.S.BaseSystem in
     let s = c.args.s.now in
-    counting_start (b.loads s) 1000000 c.next-value-value.result (λ i. let h = g.met.S.BaseSystem.high s (b.loads s) c.requires.0 i in omega (arith, c.requires.1)) c.next-value-value.ensures
+    counting_start (b.loads s) 1000000 c.next_value-value.result (λ i. let h = g.met.S.BaseSystem.high s (b.loads s) c.requires.0 i in omega (arith, c.requires.1)) c.next_value-value.ensures
 
-pub overflow-add-count : goal.overflow-add-count
-overflow-add-count g c =
+pub overflow_add-count : goal.overflow_add-count
+overflow_add-count g c =
     let b = g.S.BaseSystem in
     let s = c.args.s.now in
     let room = counting_room (b.loads s) c.loop-value.count c.loop-value.value c.loop-value-test.true c.loop-value.invariant in
@@ -21,10 +20,10 @@ overflow-add-count g c =
 
 pub loop-value-preserved : goal.loop-value-preserved
 loop-value-preserved g c =
-    counting_next (g.S.BaseSystem.loads c.args.s.now) c.loop-value.count c.loop-value.value c.next-value-value-in-loop-value.result c.loop-value-test.true c.loop-value.invariant c.next-value-value-in-loop-value.ensures
+    counting_next (g.S.BaseSystem.loads c.args.s.now) c.loop-value.count c.loop-value.value c.next_value-value-in-loop-value.result c.loop-value-test.true c.loop-value.invariant c.next_value-value-in-loop-value.ensures
 
 pub loop-value-smaller : goal.loop-value-smaller
-loop-value-smaller g c = falls_on (g.S.BaseSystem.loads c.args.s.now) c.loop-value.value c.next-value-value-in-loop-value.result c.loop-value-test.true c.next-value-value-in-loop-value.ensures
+loop-value-smaller g c = falls_on (g.S.BaseSystem.loads c.args.s.now) c.loop-value.value c.next_value-value-in-loop-value.result c.loop-value-test.true c.next_value-value-in-loop-value.ensures
 
 pub returns : goal.returns
 returns g c = counting_end (g.S.BaseSystem.loads c.args.s.now) c.loop-value.count c.loop-value.value c.loop-value-test.false c.loop-value.invariant

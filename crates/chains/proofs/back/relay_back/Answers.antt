@@ -1,4 +1,4 @@
-use Rattle.std.proofs.Common.{◌≡◌, ℕ, ◌+◌, ◌<◌, Bool, true, false, get_or, MatchBool, sym, refl, ap, ◌∙◌, subst, arith}
+use Rattle.std.proofs.Common.{ℕ, Bool, true, false, get_or, MatchBool, sym, refl, ◌∙◌, subst}
 use Rattle.items.specs.Fillings.{Shape, Fills, Link, Relayed}
 use Rattle.chains.proofs.Walked.{Walked, not_yet, still_links, one_back, all_the_way}
 use Rattle.chains.proofs.back.relay_back.Goals as goal
@@ -12,7 +12,7 @@ pub loop-v-init : goal.loop-v-init
 loop-v-init g c =
     let d = g.D.Division in
     let store = c.args.division.now in
-    (c.requires.1, not_yet (d.shape store) (d.amount store) c.args.spread.now.far c.args.j, refl, refl, refl)
+    (c.requires.reached, not_yet (d.shape store) (d.amount store) c.args.spread.now.far c.args.j, refl, refl, refl)
 
 pub loop-v-preserved : goal.loop-v-preserved
 loop-v-preserved g c =
@@ -23,7 +23,7 @@ loop-v-preserved g c =
     let v = c.loop-v.v in
     let u = get_or spread.from v 0 in
     let inv = c.loop-v.invariant in
-    let came = c.requires.0.came v inv.0 c.loop-v-test.true in
+    let came = c.requires.distances.came v inv.0 c.loop-v-test.true in
     let link = still_links (d.shape first) (d.amount first) spread.far c.args.j (d.amount store) u v c.loop-v.count inv.1 came.1 came.2 in
     let link-now : Link (d.shape store) (d.amount store) u v = subst (λ (s : Shape). Link s (d.amount store) u v) (sym inv.2) link in
     let relayed = made c.relay.result _ _ _ c.relay.ensures.moves link-now in
@@ -49,6 +49,6 @@ returns g c =
     let fills : Fills (d.shape first) (d.amount store) = subst (λ (s : Shape). Fills s (d.amount store)) inv.2 (laws.fills store) in
     record {
       passes = all_the_way (d.shape first) (d.amount first) (d.amount store) (laws.fills first) fills c.args.i c.args.j spread.seen spread.from spread.far
-          c.requires.0 c.requires.1 c.requires.2 c.loop-v.count at_i;
+          c.requires.distances c.requires.reached c.requires.apart c.loop-v.count at_i;
       keeps = (inv.2, inv.3, inv.4);
     }

@@ -14,11 +14,11 @@ pub returns-then-eq : goal.returns-then-eq
 returns-then-eq c =
     let col = c.args.column.now in
     let same = (slice_eq-Decides Decides-eqb _ _ _ c.eq.ensures).0 c.if-eq.true in
-    let front : take (length (name_of c.args.word)) col ≡ name_of c.args.word = subst (λ name. take (length name) col ≡ name) c.name-name.ensures (sym c.split-at.ensures.front ∙ same) in
-    let back = subst (λ name. c.split-at.result.1.now ≡ drop (length name) col) c.name-name.ensures c.split-at.ensures.back in
+    let front : take (length (name_of c.args.word)) col ≡ name_of c.args.word = subst (λ name. take (length name) col ≡ name) c.name-name.ensures (sym c.split_at.ensures.front ∙ same) in
+    let back = subst (λ name. c.split_at.result.1.now ≡ drop (length name) col) c.name-name.ensures c.split_at.ensures.back in
     same_front col (name_of c.args.word) c.blank.result front (c.blank.ensures ∙ ap (λ bs. bytes_eq bs (replicate (length bs) 32)) back)
 
 pub returns-else-eq : goal.returns-else-eq
 returns-else-eq c =
     let col = c.args.column.now in
-    c.if-eq.false ∙ other_front col (name_of c.args.word) (λ e. true_false _ ((slice_eq-Decides Decides-eqb _ _ _ c.eq.ensures).1 (c.split-at.ensures.front ∙ subst (λ name. take (length name) col ≡ name) (sym c.name-name.ensures) e)) c.if-eq.false)
+    c.if-eq.false ∙ other_front col (name_of c.args.word) (λ e. true_false _ ((slice_eq-Decides Decides-eqb _ _ _ c.eq.ensures).1 (c.split_at.ensures.front ∙ subst (λ name. take (length name) col ≡ name) (sym c.name-name.ensures) e)) c.if-eq.false)

@@ -13,7 +13,7 @@ returns-in-Some c =
     let rest = first_fault seats (drop (i + 1) legs) in
     let step : first_fault seats (drop i legs) ≡ first_of (leg_fault seats (leg_at legs i)) rest =
     at_drop_more (first_fault seats) legs i (record { a = 0; b = 0; passages = 0 }) c.loop-leg-test.true in
-    let due = sym c.leg-fault.ensures ∙ c.in-Some.is in
+    let due = sym c.leg_fault.ensures ∙ c.in-Some.is in
     sym (sym c.loop-leg.invariant ∙ step ∙ ap (λ (o : Option Fault). first_of o rest) due)
 
 pub loop-leg-preserved : goal.loop-leg-preserved
@@ -24,7 +24,7 @@ loop-leg-preserved c =
     let rest = first_fault seats (drop (i + 1) legs) in
     let step : first_fault seats (drop i legs) ≡ first_of (leg_fault seats (leg_at legs i)) rest =
     at_drop_more (first_fault seats) legs i (record { a = 0; b = 0; passages = 0 }) c.loop-leg-test.true in
-    let none = sym c.leg-fault.ensures ∙ c.in-default.is in
+    let none = sym c.leg_fault.ensures ∙ c.in_default.is in
     sym (sym c.loop-leg.invariant ∙ step ∙ ap (λ (o : Option Fault). first_of o rest) none)
 
 pub returns : goal.returns

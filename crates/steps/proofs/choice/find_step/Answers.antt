@@ -10,7 +10,7 @@ loop-i-init g c =
     let b = g.S.BaseSystem in
     let laws = g.met.S.BaseSystem in
     let s = c.args.s.now in (
-      c.first-left.type-inv,
+      c.first-left.type_inv,
       λ k j out step. out ((c.first-left.ensures k).1 (
           let seat = seat_of (b.loads s) k step.reach.gives in
           let w = laws.width s (b.loads s) c.requires.0 in
@@ -18,18 +18,18 @@ loop-i-init g c =
           (omega (arith, c.count.ensures), omega arith))),
     )
 
-pub best-receiver-requires : goal.best-receiver-requires
-best-receiver-requires g c = (c.requires, c.standing-reach-reach.ensures)
+pub best_receiver-requires : goal.best_receiver-requires
+best_receiver-requires g c = record { stands = c.requires; exact = c.standing_reach-reach.ensures }
 
-pub returns-in-Some-best-receiver : goal.returns-in-Some-best-receiver
-returns-in-Some-best-receiver g c =
+pub returns-in-Some-best_receiver : goal.returns-in-Some-best_receiver
+returns-in-Some-best_receiver g c =
     let b = g.S.BaseSystem in
     let laws = g.met.S.BaseSystem in
     let s = c.args.s.now in
     let x = b.loads s in
     let above = g.G.Grading.above c.args.grading.now in
     let grades = g.met.G.Grading.order c.args.grading.now in
-    chosen_step (b.bases s) (laws.exchange s) (b.seats s) (laws.width s) (laws.few s).1 (b.top s) c.requires.1 (laws.high s) above grades x c.requires.0 c.loop-i.left c.in-Some.i c.loop-i.invariant.1 c.in-Some.ensures c.in-Some-best-receiver.j c.in-Some-best-receiver.ensures
+    chosen_step (b.bases s) (laws.exchange s) (b.seats s) (laws.width s) (laws.few s).1 (b.top s) c.requires.1 (laws.high s) above grades x c.requires.0 c.loop-i.left c.in-Some.i c.loop-i.invariant.1 c.in-Some.ensures c.in-Some-best_receiver.j c.in-Some-best_receiver.ensures
 
 pub loop-i-smaller : goal.loop-i-smaller
 loop-i-smaller g c =
@@ -42,7 +42,7 @@ loop-i-smaller g c =
     let i = c.in-Some.i in
     let donor = c.in-Some.ensures in
     let low : c.in-Some.i < 64 = (let seat = seat_of x i donor.has.1 in let w = laws.width s x c.requires.0 in let few = (laws.few s).1 in omega arith) in
-    fewer_left (b.bases s) (laws.exchange s) (b.seats s) (laws.width s) (laws.few s).1 (b.top s) c.requires.1 (laws.high s) above grades x c.requires.0 c.loop-i.left i c.loop-i.invariant.1 donor c.without-left.result c.standing-reach-reach.result c.with.result low c.loop-i.invariant.0 c.without-left.type-inv c.with.ensures c.without-left.ensures
+    fewer_left (b.bases s) (laws.exchange s) (b.seats s) (laws.width s) (laws.few s).1 (b.top s) c.requires.1 (laws.high s) above grades x c.requires.0 c.loop-i.left i c.loop-i.invariant.1 donor c.without-left.result c.standing_reach-reach.result c.with.result low c.loop-i.invariant.0 c.without-left.type_inv c.with.ensures c.without-left.ensures
 
 pub loop-i-preserved : goal.loop-i-preserved
 loop-i-preserved g c =
@@ -55,10 +55,10 @@ loop-i-preserved g c =
     let i = c.in-Some.i in
     let donor = c.in-Some.ensures in
     let low : c.in-Some.i < 64 = (let seat = seat_of x i donor.has.1 in let w = laws.width s x c.requires.0 in let few = (laws.few s).1 in omega arith) in (
-      c.without-left.type-inv,
-      left_out (b.bases s) (laws.exchange s) (b.seats s) (laws.width s) (laws.few s).1 (b.top s) c.requires.1 (laws.high s) above grades x c.requires.0 c.loop-i.left i c.loop-i.invariant.1 donor c.without-left.result c.standing-reach-reach.result c.with.result low c.standing-reach-reach.ensures c.with.ensures c.without-left.ensures c.in-default-best-receiver.ensures,
+      c.without-left.type_inv,
+      left_out (b.bases s) (laws.exchange s) (b.seats s) (laws.width s) (laws.few s).1 (b.top s) c.requires.1 (laws.high s) above grades x c.requires.0 c.loop-i.left i c.loop-i.invariant.1 donor c.without-left.result c.standing_reach-reach.result c.with.result low c.standing_reach-reach.ensures c.with.ensures c.without-left.ensures c.in_default-best_receiver.ensures,
     )
 
 -- where no seat that is left has a unit, there is no step
 pub returns : goal.returns
-returns g c i j step = c.loop-i.invariant.1 i j (λ h. c.in-default.ensures i h step.reach.gives) step
+returns g c i j step = c.loop-i.invariant.1 i j (λ h. c.in_default.ensures i h step.reach.gives) step

@@ -1,12 +1,11 @@
 -- The walk through the reach of the donor, turn by turn.
-use Rattle.std.proofs.Common.{◌≡◌, ℕ, ◌+◌, ◌<◌, Bool, true, false, T, List, get_or, sym, ◌∙◌, subst, ap₂, arith}
-use Rattle.bases.specs.Exchange.{Reaches}
+use Rattle.std.proofs.Common.{◌≡◌, ℕ, ◌+◌, Bool, true, false, T, List, get_or, sym, ◌∙◌, subst, ap₂}
 use Rattle.optima.specs.Steps.{Step}
 use Rattle.steps.specs.Chosen.{better_receiver}
 use Rattle.steps.proofs.Foremost.{Walk, not_walked, all_walked, passed_over, walk_taken, walk_kept}
 use Rattle.steps.proofs.Graded.{receivers, receivers_one_way, receivers_between}
 use Rattle.steps.proofs.receivers.best_receiver.Goals as goal
-use Rattle.steps.proofs.receivers.best_receiver.Goals.{else-is-above-via-then-is-above+else-better-receiver, else-is-above-via-else-is-above}
+use Rattle.steps.proofs.receivers.best_receiver.Goals.{else-is_above-via-then-is_above+else-better_receiver, else-is_above-via-else-is_above}
 
 -- the test that was made is the one of a step
 tested : (above : ℕ → ℕ → ℕ → ℕ → Bool) (x : List ℕ) (i last j next : ℕ) (r t : Bool) → r ≡ above i last j next → last ≡ get_or x i 0 → next ≡ get_or x j 0 + 1 → r ≡ t
@@ -22,8 +21,8 @@ loop-j-init g c =
     let above = g.G.Grading.above c.args.grading.now in
     not_walked (better_receiver above x) (λ k. Step (b.bases s) above x i k) c.args.reach
 
-pub loop-j-preserved-then-better-receiver : goal.loop-j-preserved-then-better-receiver
-loop-j-preserved-then-better-receiver g c =
+pub loop-j-preserved-then-better_receiver : goal.loop-j-preserved-then-better_receiver
+loop-j-preserved-then-better_receiver g c =
     let b = g.S.BaseSystem in
     let laws = g.met.S.BaseSystem in
     let s = c.args.s.now in
@@ -31,13 +30,13 @@ loop-j-preserved-then-better-receiver g c =
     let i = c.args.i in
     let above = g.G.Grading.above c.args.grading.now in
     let grades = g.met.G.Grading.order c.args.grading.now in
-    let one_way = receivers_one_way (b.bases s) (laws.exchange s) (b.seats s) (laws.width s) (laws.few s).1 (b.top s) c.requires.0.1 (laws.high s) above grades x c.requires.0.0 i in
-    let between = receivers_between (b.bases s) (laws.exchange s) (b.seats s) (laws.width s) (laws.few s).1 (b.top s) c.requires.0.1 (laws.high s) above grades x c.requires.0.0 i in
+    let one_way = receivers_one_way (b.bases s) (laws.exchange s) (b.seats s) (laws.width s) (laws.few s).1 (b.top s) c.requires.stands.1 (laws.high s) above grades x c.requires.stands.0 i in
+    let between = receivers_between (b.bases s) (laws.exchange s) (b.seats s) (laws.width s) (laws.few s).1 (b.top s) c.requires.stands.1 (laws.high s) above grades x c.requires.stands.0 i in
     let j = c.in-Some.j in
-    let graded = tested above x i c.standing-load-last.result j c.next_unit.result c.is-above.result true c.is-above.ensures c.standing-load-last.ensures c.next_unit.ensures c.if-is-above.true in
+    let graded = tested above x i c.standing_load-last.result j c.next_unit.result c.is_above.result true c.is_above.ensures c.standing_load-last.ensures c.next_unit.ensures c.if-is_above.true in
     let member = c.loop-j.invariant.inside j c.in-Some.ensures.lowest.member in
-    walk_taken (better_receiver above x) (λ k. Step (b.bases s) above x i k) c.args.reach one_way between c.loop-j.left c.take-lowest.new.left j c.in-Some.ensures
-    (record { reach = (c.requires.1 j).0 member; graded = subst T (sym graded) tt }) c.loop-j.best (sym c.better-receiver.ensures ∙ c.if-better-receiver.true) c.loop-j.invariant
+    walk_taken (better_receiver above x) (λ k. Step (b.bases s) above x i k) c.args.reach one_way between c.loop-j.left c.take_lowest.new.left j c.in-Some.ensures
+    (record { reach = (c.requires.exact j).0 member; graded = subst T (sym graded) tt }) c.loop-j.best (sym c.better_receiver.ensures ∙ c.if-better_receiver.true) c.loop-j.invariant
 
 pub loop-j-preserved : goal.loop-j-preserved
 loop-j-preserved g c =
@@ -48,18 +47,18 @@ loop-j-preserved g c =
     let i = c.args.i in
     let above = g.G.Grading.above c.args.grading.now in
     let grades = g.met.G.Grading.order c.args.grading.now in
-    let one_way = receivers_one_way (b.bases s) (laws.exchange s) (b.seats s) (laws.width s) (laws.few s).1 (b.top s) c.requires.0.1 (laws.high s) above grades x c.requires.0.0 i in
-    let between = receivers_between (b.bases s) (laws.exchange s) (b.seats s) (laws.width s) (laws.few s).1 (b.top s) c.requires.0.1 (laws.high s) above grades x c.requires.0.0 i in
+    let one_way = receivers_one_way (b.bases s) (laws.exchange s) (b.seats s) (laws.width s) (laws.few s).1 (b.top s) c.requires.stands.1 (laws.high s) above grades x c.requires.stands.0 i in
+    let between = receivers_between (b.bases s) (laws.exchange s) (b.seats s) (laws.width s) (laws.few s).1 (b.top s) c.requires.stands.1 (laws.high s) above grades x c.requires.stands.0 i in
     let j = c.in-Some.j in
     let member = c.loop-j.invariant.inside j c.in-Some.ensures.lowest.member in
-    elim c.else-is-above.branch [
-      | else-is-above-via-then-is-above+else-better-receiver w ↦
-          (let graded = tested above x i c.standing-load-last.result j c.next_unit.result c.is-above.result true c.is-above.ensures c.standing-load-last.ensures c.next_unit.ensures w.if-is-above.true in
-          walk_kept (better_receiver above x) (λ k. Step (b.bases s) above x i k) c.args.reach one_way between c.loop-j.left c.take-lowest.new.left j c.in-Some.ensures
-          (record { reach = (c.requires.1 j).0 member; graded = subst T (sym graded) tt }) c.loop-j.best (sym w.better-receiver.ensures ∙ w.if-better-receiver.false) c.loop-j.invariant)
-      | else-is-above-via-else-is-above w ↦
-          (let graded = tested above x i c.standing-load-last.result j c.next_unit.result c.is-above.result false c.is-above.ensures c.standing-load-last.ensures c.next_unit.ensures w.if-is-above.false in
-          passed_over (better_receiver above x) (λ k. Step (b.bases s) above x i k) c.args.reach c.loop-j.left c.take-lowest.new.left j c.loop-j.best c.loop-j.invariant c.in-Some.ensures
+    elim c.else-is_above.branch [
+      | else-is_above-via-then-is_above+else-better_receiver w ↦
+          (let graded = tested above x i c.standing_load-last.result j c.next_unit.result c.is_above.result true c.is_above.ensures c.standing_load-last.ensures c.next_unit.ensures w.if-is_above.true in
+          walk_kept (better_receiver above x) (λ k. Step (b.bases s) above x i k) c.args.reach one_way between c.loop-j.left c.take_lowest.new.left j c.in-Some.ensures
+          (record { reach = (c.requires.exact j).0 member; graded = subst T (sym graded) tt }) c.loop-j.best (sym w.better_receiver.ensures ∙ w.if-better_receiver.false) c.loop-j.invariant)
+      | else-is_above-via-else-is_above w ↦
+          (let graded = tested above x i c.standing_load-last.result j c.next_unit.result c.is_above.result false c.is_above.ensures c.standing_load-last.ensures c.next_unit.ensures w.if-is_above.false in
+          passed_over (better_receiver above x) (λ k. Step (b.bases s) above x i k) c.args.reach c.loop-j.left c.take_lowest.new.left j c.loop-j.best c.loop-j.invariant c.in-Some.ensures
           (λ step. subst T graded step.graded))
     ]
 
@@ -71,6 +70,6 @@ returns g c =
     let x = b.loads s in
     let i = c.args.i in
     let above = g.G.Grading.above c.args.grading.now in
-    receivers (b.bases s) above x i c.args.reach c.requires.1 c.loop-j.best
+    receivers (b.bases s) above x i c.args.reach c.requires.exact c.loop-j.best
     (all_walked (better_receiver above x) (λ k. Step (b.bases s) above x i k) c.args.reach c.loop-j.best
-    (subst (λ (left : ℕ). Walk (better_receiver above x) (λ k. Step (b.bases s) above x i k) c.args.reach left c.loop-j.best) c.in-default.ensures.0 c.loop-j.invariant))
+    (subst (λ (left : ℕ). Walk (better_receiver above x) (λ k. Step (b.bases s) above x i k) c.args.reach left c.loop-j.best) c.in_default.ensures.0 c.loop-j.invariant))

@@ -1,4 +1,4 @@
-use Rattle.std.proofs.Common.{◌≡◌, ℕ, ◌+◌, ◌^◌, ◌<◌, ◌≤◌, List, get_or, replicate, sym, subst, inr, ⊎_elim, arith}
+use Rattle.std.proofs.Common.{◌≡◌, ℕ, ◌^◌, ◌<◌, ◌≤◌, List, replicate, subst, inr, ⊎_elim, arith}
 use lib.Count.{count_trailing_zeros}
 use Rattle.std.proofs.lemmas.List.{get_or-replicate}
 use Rattle.seats.specs.Sets.{In, Exactly}
@@ -19,7 +19,7 @@ loop-edge-init g c =
     let low : c.args.i < 64 = omega (arith, c.requires) in
     let alone : (j : ℕ) → Exactly (In j c.with.result) (j ≡ c.args.i) = λ j.
     (λ h. ⊎_elim (λ z. absurd (in_none j z)) (λ e. e) ((c.with.ensures.members low j).0 h), λ e. (c.with.ensures.members low j).1 (inr e)) in
-    (starting (d.shape store) (d.amount store) i c.with.result (replicate 64 0) (replicate 64 0) c.with.type-inv c.requires alone (get_or-replicate 64 i 0 0 low), omega arith, c.with.type-inv)
+    (starting (d.shape store) (d.amount store) i c.with.result (replicate 64 0) (replicate 64 0) c.with.type_inv c.requires alone (get_or-replicate 64 i 0 0 low), omega arith, c.with.type_inv)
 
 -- while a seat is left to go from, it is fewer than 64 links away
 shallow : (shape : Shape) (f : ℕ → ℕ → ℕ) (i seen : ℕ) (from far : List ℕ) (edge depth : ℕ) → shape.seats ≤ 64 → edge < 2 ^ 64 → (edge ≡ 0 → ⊥)
@@ -33,11 +33,12 @@ pub further-edge-requires : goal.further-edge-requires
 further-edge-requires g c =
     let d = g.D.Division in
     let store = c.args.division.now in
-    let l = c.loop-edge in (
-      l.invariant.0,
-      shallow (d.shape store) (d.amount store) c.args.i l.spread.seen l.spread.from l.spread.far l.edge l.depth
-          (g.met.D.Division.few store).1 l.invariant.2 c.loop-edge-test.true l.invariant.0,
-    )
+    let l = c.loop-edge in
+    record {
+      spreading = l.invariant.0;
+      near = shallow (d.shape store) (d.amount store) c.args.i l.spread.seen l.spread.from l.spread.far l.edge l.depth
+          (g.met.D.Division.few store).1 l.invariant.2 c.loop-edge-test.true l.invariant.0;
+    }
 
 pub loop-edge-smaller : goal.loop-edge-smaller
 loop-edge-smaller g c =
@@ -56,7 +57,7 @@ loop-edge-preserved g c =
     let low = shallow (d.shape store) (d.amount store) c.args.i l.spread.seen l.spread.from l.spread.far l.edge l.depth
     (g.met.D.Division.few store).1 l.invariant.2 c.loop-edge-test.true l.invariant.0 in
     let new = c.further-edge.new.self in
-    (next_layer (d.shape store) (d.amount store) c.args.i new.seen new.from new.far c.further-edge.result l.depth c.further-edge.ensures, omega arith, c.further-edge.type-inv)
+    (next_layer (d.shape store) (d.amount store) c.args.i new.seen new.from new.far c.further-edge.result l.depth c.further-edge.ensures, omega arith, c.further-edge.type_inv)
 
 pub returns : goal.returns
 returns g c =

@@ -9,17 +9,17 @@ use Rattle.items.proofs.Units.{length_loads}
 use Rattle.chains.specs.Exact.{seen_reached, reached_seen}
 use Rattle.chains.proofs.system.DividedBaseSystem.reach.Goals as goal
 
-pub returns-in-err-seat-given : goal.returns-in-err-seat-given
-returns-in-err-seat-given g c =
+pub returns-in_err-seat_given : goal.returns-in_err-seat_given
+returns-in_err-seat_given g c =
     let d = g.D.Division in
     let store = c.args.self.now.division in
     let len = length_loads (d.shape store) (d.amount store) in
-    let p = err_from_is_err_and c.from-residual.result c.from-residual.ensures.1 in
-    let past = c.in-err-seat-given.ensures in
+    let p = err_from_is_err_and c.from_residual.result c.from_residual.ensures.1 in
+    let past = c.in_err-seat_given.ensures in
     rw (p.1, p.2) (omega (arith, past.0, c.seats.ensures), past.1 ∙ ap (fault_at NoSuchSeat c.args.i) c.kind.ensures)
 
-pub from-seat-spread-requires : goal.from-seat-spread-requires
-from-seat-spread-requires g c = omega (arith, c.in-ok-seat-given.ensures, c.seats.ensures)
+pub from_seat-spread-requires : goal.from_seat-spread-requires
+from_seat-spread-requires g c = omega (arith, c.in_ok-seat_given.ensures, c.seats.ensures)
 
 pub returns : goal.returns
 returns g c =
@@ -28,9 +28,9 @@ returns g c =
     let store = c.args.self.now.division in
     let len = length_loads (d.shape store) (d.amount store) in
     let i = c.args.i in
-    let s = c.from-seat-spread.result in
-    let dist = c.from-seat-spread.ensures in
-    let seat : c.args.i < (d.shape store).seats = omega (arith, c.in-ok-seat-given.ensures, c.seats.ensures) in
+    let s = c.from_seat-spread.result in
+    let dist = c.from_seat-spread.ensures in
+    let seat : c.args.i < (d.shape store).seats = omega (arith, c.in_ok-seat_given.ensures, c.seats.ensures) in
     let low : c.args.i < 64 = omega (arith, (laws.few store).1) in
     let alone : (j : ℕ) → Exactly (In j c.with.result) (j ≡ c.args.i) = λ j.
     (λ h. ⊎_elim (λ z. absurd (in_none j z)) (λ e. e) ((c.with.ensures.members low j).0 h), λ e. (c.with.ensures.members low j).1 (inr e)) in (

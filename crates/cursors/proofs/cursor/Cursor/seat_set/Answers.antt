@@ -11,21 +11,21 @@ use Rattle.cursors.proofs.cursor.Cursor.seat_set.Goals as goal
 pub loop-init : goal.loop-init
 loop-init c = (rises_none _ c.args.size _, λ j i. absurd (in_none j i), omega arith, omega arith)
 
-pub returns-in-err-seat : goal.returns-in-err-seat
-returns-in-err-seat c =
-    let p = err_from_is_err_and c.from-residual.result c.from-residual.ensures.1 in
-    let stop = onward_refused (λ l. seat l c.min-count.result) (λ _ v. v + 1) (seats_of c.loop.set) _ _ c.loop.low _ _ c.loop-test.true c.in-err-seat.ensures in
+pub returns-in_err-seat : goal.returns-in_err-seat
+returns-in_err-seat c =
+    let p = err_from_is_err_and c.from_residual.result c.from_residual.ensures.1 in
+    let stop = onward_refused (λ l. seat l c.min-count.result) (λ _ v. v + 1) (seats_of c.loop.set) _ _ c.loop.low _ _ c.loop-test.true c.in_err-seat.ensures in
     rw (p.1, p.2) (ap (λ o. go_on o (λ xs. done (set_of xs))) (sym stop ∙ c.loop.invariant.0) ∙ as_set c.args.n _ c.args.size _ c.min-count.ensures)
 
 pub loop-preserved : goal.loop-preserved
 loop-preserved c =
     let few : c.min-count.result ≤ 64 = omega (arith, c.min-count.ensures) in
-    let at = c.in-ok-seat.ensures in
-    let turned = rises_turn c.min-count.result c.loop.low c.loop.set c.with-set.result c.in-ok-seat.seat _ _ few c.loop.invariant.2 c.with-set.type-inv c.loop.invariant.1 at c.with-set.ensures in
-    let bounds = seat_bounds c.loop.low c.min-count.result c.in-ok-seat.seat _ _ at in (
+    let at = c.in_ok-seat.ensures in
+    let turned = rises_turn c.min-count.result c.loop.low c.loop.set c.with-set.result c.in_ok-seat.seat _ _ few c.loop.invariant.2 c.with-set.type_inv c.loop.invariant.1 at c.with-set.ensures in
+    let bounds = seat_bounds c.loop.low c.min-count.result c.in_ok-seat.seat _ _ at in (
       turned c.args.size c.loop.counter c.loop-test.true ∙ c.loop.invariant.0,
-      still_below c.min-count.result c.loop.low c.loop.set c.with-set.result c.in-ok-seat.seat _ _ few c.loop.invariant.2 c.with-set.type-inv c.loop.invariant.1 at c.with-set.ensures,
-      c.with-set.type-inv,
+      still_below c.min-count.result c.loop.low c.loop.set c.with-set.result c.in_ok-seat.seat _ _ few c.loop.invariant.2 c.with-set.type_inv c.loop.invariant.1 at c.with-set.ensures,
+      c.with-set.type_inv,
       omega (arith, bounds.1),
     )
 

@@ -2,5 +2,5 @@ use Rattle.std.proofs.Common.{lit≤}
 use Rattle.grades.proofs.Weighing.{weights_same}
 use Rattle.grades.proofs.shares.Shares.new.Goals as goal
 
-pub invariant-of-result : goal.invariant-of-result
-invariant-of-result c = (weights_same _ (lit≤ tt) (lit≤ tt), tt)
+pub invariant_of-result : goal.invariant_of-result
+invariant_of-result c = record { within = weights_same _ (lit≤ tt) (lit≤ tt) }

@@ -11,7 +11,7 @@ pub linked-requires : goal.linked-requires
 linked-requires c =
     let d = c.args.self.now in
     let t = c.loop-t.t in
-    let same = c.as-slice-legs.ensures.value in
+    let same = c.as_slice-legs.ensures.value in
     let len = ap (λ (xs : List Leg). length xs) same in
     let l = d.lawful t (omega arith) in
     let few = d.few.1 in
@@ -27,7 +27,7 @@ loop-t-preserved c =
     let t = c.loop-t.t in
     let here =
     subst (λ (xs : List Leg). (v : ℕ) → Exactly (In v c.linked.result) (LegLinks (leg_at xs t) (get_or d.first t 0) c.args.u v))
-    c.as-slice-legs.ensures.value c.linked.ensures in
+    c.as_slice-legs.ensures.value c.linked.ensures in
     links_more (vec_items d.legs) d.first t c.args.u c.loop-t.set c.linked.result c.union-set.result c.union-set.ensures c.loop-t.invariant here
 
 pub returns : goal.returns
@@ -35,7 +35,7 @@ returns c v =
     let d = c.args.self.now in
     let legs = vec_items d.legs in
     let u = c.args.u in
-    let len = ap (λ (xs : List Leg). length xs) c.as-slice-legs.ensures.value in
+    let len = ap (λ (xs : List Leg). length xs) c.as_slice-legs.ensures.value in
     let all : c.loop-t.t ≡ length legs = omega arith in
     let found : Exactly (In v c.loop-t.set) (SomeLinks legs d.first (length legs) u v) =
     subst (λ (n : ℕ). Exactly (In v c.loop-t.set) (SomeLinks legs d.first n u v)) all (c.loop-t.invariant v) in (

@@ -5,19 +5,19 @@ use Rattle.legs.specs.declared.leg.Leg.{Leg}
 use Rattle.legs.proofs.Linking.{relays_forth, relays_back, of_link}
 use Rattle.legs.proofs.division.LegTableDivision.relay.Goals as goal
 
-pub returns-in-default : goal.returns-in-default
-returns-in-default c =
+pub returns-in_default : goal.returns-in_default
+returns-in_default c =
     let d = c.args.self.now in
     record {
       moves = (
-        λ link. c.in-default.ensures (of_link d.seats (vec_items d.legs) d.first d.lawful d.within c.args.u c.args.v link),
+        λ link. c.in_default.ensures (of_link d.seats (vec_items d.legs) d.first d.lawful d.within c.args.u c.args.v link),
         refl,
       );
       keeps = (refl, refl, refl);
     }
 
-pub overflow-sub-self : goal.overflow-sub-self
-overflow-sub-self c =
+pub overflow_sub-self : goal.overflow_sub-self
+overflow_sub-self c =
     let d = c.args.self.now in
     let legs = vec_items d.legs in
     let t = c.in-Some.t in

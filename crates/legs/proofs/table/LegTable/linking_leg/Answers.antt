@@ -6,14 +6,14 @@ use Rattle.legs.specs.Shares.{LegLinks, SomeLinks}
 use Rattle.legs.proofs.Linking.{unlinked_more}
 use Rattle.legs.proofs.table.LegTable.linking_leg.Goals as goal
 
-pub returns-then-links-to : goal.returns-then-links-to
-returns-then-links-to c =
+pub returns-then-links_to : goal.returns-then-links_to
+returns-then-links_to c =
     let d = c.args.self.now in
     let t = c.loop-t.t in
-    let same = c.as-slice-legs.ensures.value in
+    let same = c.as_slice-legs.ensures.value in
     let len = ap (λ (xs : List Leg). length xs) same in (
       omega arith,
-      subst (λ (xs : List Leg). LegLinks (leg_at xs t) (get_or d.first t 0) c.args.u c.args.v) same c.if-links-to.ensures,
+      subst (λ (xs : List Leg). LegLinks (leg_at xs t) (get_or d.first t 0) c.args.u c.args.v) same c.if-links_to.ensures,
       c.loop-t.invariant,
     )
 
@@ -23,13 +23,13 @@ loop-t-preserved c =
     let t = c.loop-t.t in
     let away =
     subst (λ (xs : List Leg). LegLinks (leg_at xs t) (get_or d.first t 0) c.args.u c.args.v → ⊥)
-    c.as-slice-legs.ensures.value c.if-links-to.ensures in
+    c.as_slice-legs.ensures.value c.if-links_to.ensures in
     unlinked_more (vec_items d.legs) d.first t c.args.u c.args.v c.loop-t.invariant away
 
 pub returns : goal.returns
 returns c =
     let d = c.args.self.now in
     let legs = vec_items d.legs in
-    let len = ap (λ (xs : List Leg). length xs) c.as-slice-legs.ensures.value in
+    let len = ap (λ (xs : List Leg). length xs) c.as_slice-legs.ensures.value in
     let all : c.loop-t.t ≡ length legs = omega arith in
     subst (λ (n : ℕ). SomeLinks legs d.first n c.args.u c.args.v → ⊥) all c.loop-t.invariant

@@ -5,17 +5,17 @@ use Rattle.legs.specs.Refusals.{legs_fault}
 use Rattle.legs.proofs.Reasons.{no_fault}
 use Rattle.legs.proofs.table.LegTable.new.Goals as goal
 
-pub invariant-of-result : goal.invariant-of-result
-invariant-of-result c =
+pub invariant_of-result : goal.invariant_of-result
+invariant_of-result c =
     let legs = vec_items c.args.legs in
-    let none : legs_fault c.args.seats legs ≡ None = ap (λ (xs : List Leg). legs_fault c.args.seats xs) (sym c.deref.ensures.value) ∙ sym c.legs-fault.ensures ∙ c.in-default.is in
+    let none : legs_fault c.args.seats legs ≡ None = ap (λ (xs : List Leg). legs_fault c.args.seats xs) (sym c.deref.ensures.value) ∙ sym c.legs_fault.ensures ∙ c.in_default.is in
     let lawful = no_fault c.args.seats legs none in
-    let all = subst (λ (xs : List Leg). (t : ℕ) → t < length xs → get_or c.all-passages-first.result t 0 ≡ (leg_at xs t).passages) c.deref-2.ensures.value c.all-passages-first.ensures in
-    (lawful.0, (lawful.1, ((λ t h. omega (arith, all t h)), tt)))
+    let all = subst (λ (xs : List Leg). (t : ℕ) → t < length xs → get_or c.all_passages-first.result t 0 ≡ (leg_at xs t).passages) c.deref-2.ensures.value c.all_passages-first.ensures in
+    record { few = lawful.0; lawful = lawful.1; within = λ t h. omega (arith, all t h) }
 
 pub returns : goal.returns
 returns c =
     let legs = vec_items c.args.legs in
-    let none : legs_fault c.args.seats legs ≡ None = ap (λ (xs : List Leg). legs_fault c.args.seats xs) (sym c.deref.ensures.value) ∙ sym c.legs-fault.ensures ∙ c.in-default.is in
-    let all = subst (λ (xs : List Leg). (t : ℕ) → t < length xs → get_or c.all-passages-first.result t 0 ≡ (leg_at xs t).passages) c.deref-2.ensures.value c.all-passages-first.ensures in
+    let none : legs_fault c.args.seats legs ≡ None = ap (λ (xs : List Leg). legs_fault c.args.seats xs) (sym c.deref.ensures.value) ∙ sym c.legs_fault.ensures ∙ c.in_default.is in
+    let all = subst (λ (xs : List Leg). (t : ℕ) → t < length xs → get_or c.all_passages-first.result t 0 ≡ (leg_at xs t).passages) c.deref-2.ensures.value c.all_passages-first.ensures in
     (none, refl, refl, all)

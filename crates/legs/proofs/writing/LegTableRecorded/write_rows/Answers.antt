@@ -16,7 +16,7 @@ pub row-requires : goal.row-requires
 row-requires c =
     let d = c.args.self.now in
     let t = c.loop-t.t in
-    let same = c.as-slice-legs.ensures.value in
+    let same = c.as_slice-legs.ensures.value in
     let len = ap (λ (xs : List Leg). length xs) same in
     let leg = ap (λ (xs : List Leg). (leg_at xs t).passages) same in
     omega (arith, d.within t (omega arith))
@@ -28,7 +28,7 @@ loop-t-preserved c =
     let t = c.loop-t.t in
     let out = c.loop-t.out in
     let f : ℕ → LegRow = λ k. row_of (leg_at legs k) (get_or d.first k 0) in
-    let same = c.as-slice-legs.ensures.value in
+    let same = c.as_slice-legs.ensures.value in
     let len = ap (λ (xs : List Leg). length xs) same in
     let written : c.row.result ≡ f t = c.row.ensures ∙ ap (λ (xs : List Leg). row_of (leg_at xs t) (get_or d.first t 0)) same in
     let inside : t < length out = omega (arith, c.loop-t.auto.out) in (
@@ -41,7 +41,7 @@ pub returns-then-out-legs : goal.returns-then-out-legs
 returns-then-out-legs c =
     let d = c.args.self.now in
     let rows = length_rows (vec_items d.legs) d.first in
-    let len = ap (λ (xs : List Leg). length xs) c.as-slice-legs.ensures.value in
+    let len = ap (λ (xs : List Leg). length xs) c.as_slice-legs.ensures.value in
     (omega arith, c.nowhere.ensures, refl {a = c.args.out.now})
 
 pub returns : goal.returns
@@ -50,7 +50,7 @@ returns c =
     let legs = vec_items d.legs in
     let out = c.loop-t.out in
     let rows = length_rows legs d.first in
-    let len = ap (λ (xs : List Leg). length xs) c.as-slice-legs.ensures.value in
+    let len = ap (λ (xs : List Leg). length xs) c.as_slice-legs.ensures.value in
     let room : length legs ≤ length out = omega (arith, c.loop-t.auto.out) in (
       len ∙ sym rows,
       ap (λ (k : ℕ). take k out) len ∙ rows_written legs d.first out room (λ k h. c.loop-t.invariant.0 k (omega arith)),
