@@ -15,9 +15,8 @@ use Rattle.columns.specs.declared.words.Word.{Word}
 use Rattle.columns.specs.declared.words.Word.TheVariants.{Turns, Legs, Nests, Carry, Cap, Most, Least, Share, End}
 use Rattle.columns.specs.Numbers.{and_then, number_of, number_text}
 use Rattle.columns.specs.Rows.{number_column, word_column}
-use Rattle.columns.specs.Words.{word_text}
 use Rattle.columns.proofs.Numbered.{number_read, number_written, length_text}
-use Rattle.cursors.specs.Steps.{Spot, Outcome, got, refused, Step, go_on, block, past, below, here, shown, tested, field, seat, at_word, word, line_end, closed}
+use Rattle.cursors.specs.Steps.{Spot, got, refused, go_on, block, past, below, here, tested, field, seat, at_word, word, line_end, closed}
 use Rattle.cursors.proofs.Read.{Reads, Anything, never, go_on_got, got_parts}
 
 -- a column is what it has, and then what lies behind it

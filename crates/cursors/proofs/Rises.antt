@@ -1,15 +1,13 @@
 -- Seats that rise, and the set that they make: the loop that reads them. Assumes nothing.
-use Rattle.std.proofs.Common.{◌≡◌, ℕ, ◌+◌, ◌-◌, ◌^◌, ◌<◌, ◌≤◌, min, ◌⊎◌, List, [], ◌∷◌, ◌++◌, sym, refl, ap, ◌∙◌, inl, inr, arith}
-use Rattle.faults.specs.declared.Fault.{Fault}
+use Rattle.std.proofs.Common.{◌≡◌, ℕ, ◌+◌, ◌-◌, ◌^◌, ◌<◌, ◌≤◌, min, List, [], ◌∷◌, ◌++◌, sym, ap, ◌∙◌, inl, inr, arith}
 use Rattle.limits.specs.Limits.{most_seats}
 use Rattle.seats.specs.Sets.{In, Inserted}
 use Rattle.seats.specs.Lists.{seats_of, set_of}
 use Rattle.seats.proofs.Listing.{seats_of_none, seats_more, set_of_seats}
-use Rattle.seats.proofs.Members.{in_none}
 use Rattle.cursors.specs.Lists.{rising, seat_set}
-use Rattle.cursors.specs.Steps.{Spot, Outcome, got, refused, Step, go_on, ◌▸◌, done, seat}
+use Rattle.cursors.specs.Steps.{Spot, Outcome, got, Step, go_on, ◌▸◌, done, seat}
 use Rattle.cursors.proofs.Cells.{seat_bounds}
-use Rattle.cursors.proofs.Chained.{onward, onward_none, onward_turn, onward_refused, onward_all}
+use Rattle.cursors.proofs.Chained.{onward, onward_none, onward_turn}
 
 -- seats that were found, and then k more from `low` on
 abbrev pub rising_on : ℕ → List ℕ → ℕ → ℕ → Step (List ℕ)

@@ -1,11 +1,11 @@
 -- Lines that go on as long as a test is met: the loop that takes them, and their text. Assumes nothing.
-use Rattle.std.proofs.Common.{◌≡◌, ℕ, zero, suc, ◌+◌, ◌-◌, ◌<◌, ◌≤◌, Bool, true, false, cond, List, [], ◌∷◌, ◌++◌, length, sym, refl, ap, ◌∙◌, subst, inl, inr, append_assoc, append-nil, arith}
+use Rattle.std.proofs.Common.{◌≡◌, ℕ, zero, suc, ◌+◌, ◌-◌, ◌<◌, ◌≤◌, Bool, true, false, List, [], ◌∷◌, ◌++◌, length, sym, refl, ap, ◌∙◌, subst, inl, inr, append_assoc, append-nil, arith}
 use native.Mathlib.Nat.{sub-zero}
 use Rattle.std.specs.List.{flat_map, AllByRecursion as All}
 use Rattle.std.proofs.lemmas.Bool.{cases_Bool}
 use Rattle.faults.specs.declared.Fault.{Fault}
 use Rattle.cursors.specs.Lists.{section}
-use Rattle.cursors.specs.Steps.{Spot, Outcome, got, refused, Step, go_on, ◌▸◌, done}
+use Rattle.cursors.specs.Steps.{Spot, got, refused, Step, go_on, ◌▸◌, done}
 use Rattle.cursors.proofs.Chained.{turn, front_none, front_one}
 use Rattle.cursors.proofs.Read.{Reads, Anything, Begins, go_on_got, got_parts}
 

@@ -1,5 +1,5 @@
 -- Steps that are repeated. Assumes nothing.
-use Rattle.std.specs.Prelude.{ℕ, zero, suc, ◌+◌, min, Bool, cond, List, [], ◌∷◌}
+use Rattle.std.specs.Prelude.{ℕ, zero, suc, ◌+◌, min, Bool, List, [], ◌∷◌}
 use Rattle.limits.specs.Limits.{most_seats}
 use Rattle.seats.specs.Lists.{set_of}
 use Rattle.cursors.specs.Steps.{Spot, Step, ◌▸◌, done, either, seat}

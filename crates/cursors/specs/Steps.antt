@@ -1,5 +1,5 @@
 -- Reading from left to right: a step takes a spot in a page, and answers what it found and the next spot, or a fault. Assumes nothing.
-use Rattle.std.specs.Prelude.{ℕ, zero, suc, ◌+◌, Bool, false, cond, ◌&&◌, ltb, List, [], ◌∷◌, length, take, drop, Some, None, Ok, Err, Option, Result, ◌==◌, nat_le, nat_lt, slice_index}
+use Rattle.std.specs.Prelude.{ℕ, ◌+◌, Bool, false, cond, ◌&&◌, ltb, List, length, take, drop, Some, None, Ok, Err, Option, Result, ◌==◌, nat_le, nat_lt, slice_index}
 use Rattle.std.specs.Option.{option_map, unwrap_or, ok_or}
 use Rattle.std.specs.Str.{bytes_eq}
 use Rattle.limits.specs.Limits.{column_bytes}

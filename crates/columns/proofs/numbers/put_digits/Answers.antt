@@ -1,4 +1,4 @@
-use Rattle.std.proofs.Common.{◌≡◌, length, sym, ap, ◌∙◌, arith}
+use Rattle.std.proofs.Common.{ap, ◌∙◌, arith}
 use Rattle.columns.specs.Numbers.{number_text}
 use Rattle.columns.proofs.Filling.{start, next, last}
 use Rattle.columns.proofs.numbers.put_digits.Goals as goal

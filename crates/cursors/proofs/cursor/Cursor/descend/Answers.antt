@@ -1,6 +1,6 @@
 use Rattle.std.proofs.Common.{◌+◌, ap}
 use Rattle.std.proofs.lemmas.List.{take_rest}
-use Rattle.cursors.specs.Steps.{Spot, below}
+use Rattle.cursors.specs.Steps.{below}
 use Rattle.cursors.proofs.cursor.Cursor.descend.Goals as goal
 
 pub returns : goal.returns

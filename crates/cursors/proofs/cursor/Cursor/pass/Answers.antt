@@ -1,6 +1,6 @@
 use Rattle.std.proofs.Common.{◌+◌, ap}
 use Rattle.std.proofs.lemmas.List.{take_rest}
-use Rattle.cursors.specs.Steps.{Spot, past}
+use Rattle.cursors.specs.Steps.{past}
 use Rattle.cursors.proofs.cursor.Cursor.pass.Goals as goal
 
 pub returns : goal.returns
