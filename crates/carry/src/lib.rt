@@ -6,10 +6,9 @@ ghost use Rattle.std.proofs.Common.{ap₂, sym, ◌∙◌, ap, rules};
 ghost use Rattle.faults.specs.declared.Kind.TheVariants.{Carry as CarryKind};
 ghost use Rattle.faults.specs.Depth.{raised};
 ghost use Rattle.bases.specs.Says.{Stands};
-ghost use Rattle.carry.specs.Carried.{added, largest as largestOf, Carried, StandsOver, laid, carrying, carry_answer};
+ghost use Rattle.carry.specs.Carried.{added, largest as largest_of, Carried, StandsOver, laid, carrying, carry_answer};
 ghost use Rattle.carry.specs.Layer.{carried_width, carried_high, carried_exchange, carried_same};
 ghost use Rattle.carry.specs.Added.{added_moved};
-ghost use Rattle.carry.specs.Carried as SpecsCarried;
 
 use bases::{BaseSystem, pair_given, seat_given};
 use faults::{Fault, Kind, Reason, passed_up};
@@ -40,7 +39,7 @@ impl<S: BaseSystem> BaseSystem for Carry<S> {
 
     ghost loads = { λ s. added s.table.carried (S.BaseSystem.loads s.below) };
 
-    ghost top = { λ s. S.BaseSystem.top s.below + largestOf s.table.carried };
+    ghost top = { λ s. S.BaseSystem.top s.below + largest_of s.table.carried };
 
     ghost layer = { λ _. CarryKind };
 
@@ -53,32 +52,27 @@ impl<S: BaseSystem> BaseSystem for Carry<S> {
 
     ghost width = { λ s x h.
         let b = S.BaseSystem in
-        let laws = S.BaseSystem in
-        carried_width (b.bases s.below) s.table.carried (b.seats s.below) (laws.width s.below) x h };
+        carried_width (b.bases s.below) s.table.carried (b.seats s.below) (b.width s.below) x h };
 
     ghost high = { λ s x h i.
         let b = S.BaseSystem in
-        let laws = S.BaseSystem in
-        carried_high (b.bases s.below) s.table.carried (b.top s.below) (laws.high s.below) x h i };
+        carried_high (b.bases s.below) s.table.carried (b.top s.below) (b.high s.below) x h i };
 
     ghost exchange = { λ s.
         let b = S.BaseSystem in
-        let laws = S.BaseSystem in
-        carried_exchange (b.bases s.below) s.table.carried (b.seats s.below) (laws.width s.below) (laws.exchange s.below) };
+        carried_exchange (b.bases s.below) s.table.carried (b.seats s.below) (b.width s.below) (b.exchange s.below) };
 
     ghost moves = { λ s t i j count h.
         let b = S.BaseSystem in
-        let laws = S.BaseSystem in
-        ap₂ added (sym h.0) (laws.moves s.below t.below i j count h.1)
+        ap₂ added (sym h.0) (b.moves s.below t.below i j count h.1)
         ∙ added_moved s.table.carried (b.loads s.below) i j h.2 };
 
     ghost keeps = { λ s t i j count h.
         let b = S.BaseSystem in
-        let laws = S.BaseSystem in
-        let kept = laws.keeps s.below t.below i j count h.1 in (
+        let kept = b.keeps s.below t.below i j count h.1 in (
           carried_same (b.bases s.below) (b.bases t.below) s.table.carried t.table.carried h.0 kept.0,
           kept.1,
-          ap₂ (λ (m n : ℕ). m + n) kept.2 (ap SpecsCarried.largest (sym h.0)),
+          ap₂ (λ (m n : ℕ). m + n) kept.2 (ap largest_of (sym h.0)),
           refl,
         ) };
 
@@ -153,7 +147,7 @@ impl<S: BaseSystem> Carry<S> {
 
 // The largest of the numbers.
 fn largest(numbers: &[u32; 64]) -> u32
-    ensures { result ≡ largestOf numbers.now }
+    ensures { result ≡ largest_of numbers.now }
 {
     let mut most: u32 = 0;
     for number in numbers {

@@ -7,14 +7,14 @@ use Rattle.faults.specs.declared.Reason.TheVariants.{NoSuchSeat, SeatsEqual}
 use Rattle.faults.specs.Places.{fault_at}
 use Rattle.legs.specs.declared.leg.Leg.{Leg}
 use Rattle.legs.specs.Lawful.{LawfulLeg, LawfulLegs, FewLegs}
-use Rattle.legs.specs.Refusals.{refuse, first_of, beyond, leg_fault, first_fault, legs_fault}
+use Rattle.legs.specs.Refusals.{refuse, first_due, beyond, leg_fault, first_fault, legs_fault}
 
 -- where no fault is due, a test is not met, and none is due after it
 passed : (test : Bool) (fault : Fault) (after : Option Fault) → refuse test fault after ≡ None → (test ≡ false) × (after ≡ None)
 passed true fault after e = absurd (let z : ◌≡◌ {A = ℕ} 0 1 = cc in omega arith)
 passed false fault after e = (refl, e)
 
-first_passed : (fault after : Option Fault) → first_of fault after ≡ None → (fault ≡ None) × (after ≡ None)
+first_passed : (fault after : Option Fault) → first_due fault after ≡ None → (fault ≡ None) × (after ≡ None)
 first_passed None after e = (refl, e)
 first_passed (Some fault) after e = absurd (let z : ◌≡◌ {A = ℕ} 0 1 = cc in omega arith)
 

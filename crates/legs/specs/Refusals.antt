@@ -13,9 +13,9 @@ abbrev pub refuse : Bool → Fault → Option Fault → Option Fault
 refuse test fault after = cond test (Some fault) after
 
 -- the first of two faults
-abbrev pub first_of : Option Fault → Option Fault → Option Fault
-first_of None after = after
-first_of (Some fault) after = Some fault
+abbrev pub first_due : Option Fault → Option Fault → Option Fault
+first_due None after = after
+first_due (Some fault) after = Some fault
 
 -- beyond the limits of the system
 abbrev pub beyond : Fault
@@ -32,7 +32,7 @@ leg_fault seats leg =
 -- the fault of the first leg that is refused
 abbrev pub first_fault : ℕ → List Leg → Option Fault
 first_fault seats [] = None
-first_fault seats (leg ∷ legs) = first_of (leg_fault seats leg) (first_fault seats legs)
+first_fault seats (leg ∷ legs) = first_due (leg_fault seats leg) (first_fault seats legs)
 
 -- before that, there are 1 to 64 seats and at most 256 legs
 abbrev pub legs_fault : ℕ → List Leg → Option Fault

@@ -3,7 +3,7 @@ ghost use Rattle.std.specs.Prelude.{length};
 ghost use Rattle.faults.specs.declared.Kind.TheVariants.{Legs as LegsKind};
 ghost use Rattle.legs.specs.Shares.{shape_of, amount_of, most_of};
 ghost use Rattle.legs.specs.Lawfully.{shares_fill, load_high, most_small};
-ghost use Rattle.std.proofs.Common.{arith, rules};
+ghost use Rattle.std.proofs.Common.{arith};
 
 use crate::moves::{linked, share};
 use crate::table::LegTable;
@@ -19,7 +19,7 @@ impl Division for LegTable {
 
     ghost sort = { λ _. LegsKind };
 
-    ghost few = { first_of (Prim.search rules, Prim.grind (arith, Self.row.coded.inj)) };
+    ghost few = { λ d. (d.few.0, d.few.1) };
 
     ghost fills = { λ d. shares_fill d.seats d.legs.items d.lawful d.first d.within };
 

@@ -32,7 +32,9 @@ pub fn links_to(leg: Leg, first: u32, u: u8, v: u8) -> bool
 
 // The seats that a leg links u to.
 pub fn linked(leg: Leg, first: u32, u: u8) -> u64
-    requires { (leg.a < 64) × ((leg.b < 64) × ((leg.a ≢ leg.b))) }
+    requires a_is_seat { leg.a < 64 }
+    requires b_is_seat { leg.b < 64 }
+    requires ends_differ { leg.a ≢ leg.b }
     ensures { (v : ℕ) → Exactly (In v result) (LegLinks leg first u v) }
 {
     if u == leg.a && first > 0 {

@@ -3,7 +3,6 @@ use crate::show::{show_changes, show_loads, show_reach, show_shift};
 use bases::Rows;
 use carry::Carry;
 use chains::Divided;
-use items::Recorded;
 use legs::{LegRow, LegTable};
 use std::io;
 

@@ -3,7 +3,6 @@ use bases::BaseSystem;
 use carry::Carry;
 use chains::Divided;
 use faults::{Fault, Kind, Reason};
-use items::Division;
 use legs::{Leg, LegTable};
 use std::test::Fail;
 

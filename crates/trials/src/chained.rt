@@ -2,7 +2,6 @@
 use bases::{BaseSystem, Rows, total};
 use chains::Divided;
 use faults::{Fault, Kind, Reason};
-use items::Recorded;
 use legs::{Leg, LegRow, LegTable};
 use std::test::Fail;
 

@@ -54,7 +54,7 @@ returns g c =
           due (refusal (b.seats s) CarryKind (λ k l. raised (b.why s k l)) i j)
           (λ count. b.shifted s i j count t)
           (λ count. (a.table.carried ≡ a.table.carried) × b.shifted s i j count t × (0 < get_or (b.loads s) i 0))
-          i j c.shift.result c.passed_up.result c.shift.ensures.says c.passed_up.ensures fault
+          i j c.shift.result _ c.shift.ensures.says (cc) fault
           (λ same. ap (λ below. record { below = below; table = a.table }) same) (λ count gives shifted. (refl, shifted, gives));
       stands = (base_above (b.bases t) a.table.carried (b.loads t) below.0, omega (arith, c.requires.1));
     }

@@ -1,16 +1,11 @@
 -- The walk through the reach of the donor, turn by turn.
-use Rattle.std.proofs.Common.{◌≡◌, ℕ, ◌+◌, Bool, true, false, T, List, get_or, sym, ◌∙◌, subst, ap₂}
+use Rattle.std.proofs.Common.{◌≡◌, ℕ, ◌+◌, true, false, T, get_or, sym, ◌∙◌, subst}
 use Rattle.optima.specs.Steps.{Step}
 use Rattle.steps.specs.Chosen.{better_receiver}
 use Rattle.steps.proofs.Foremost.{Walk, not_walked, all_walked, passed_over, walk_taken, walk_kept}
 use Rattle.steps.proofs.Graded.{receivers, receivers_one_way, receivers_between}
 use Rattle.steps.proofs.receivers.best_receiver.Goals as goal
 use Rattle.steps.proofs.receivers.best_receiver.Goals.{else-is_above-via-then-is_above+else-better_receiver, else-is_above-via-else-is_above}
-
--- the test that was made is the one of a step
-tested : (above : ℕ → ℕ → ℕ → ℕ → Bool) (x : List ℕ) (i last j next : ℕ) (r t : Bool) → r ≡ above i last j next → last ≡ get_or x i 0 → next ≡ get_or x j 0 + 1 → r ≡ t
-    → above i (get_or x i 0) j (get_or x j 0 + 1) ≡ t
-tested above x i last j next r t e el en h = sym (ap₂ (λ (u v : ℕ). above i u j v) el en) ∙ sym e ∙ h
 
 pub loop-j-init : goal.loop-j-init
 loop-j-init g c =
@@ -33,7 +28,7 @@ loop-j-preserved-then-better_receiver g c =
     let one_way = receivers_one_way (b.bases s) (laws.exchange s) (b.seats s) (laws.width s) (laws.few s).1 (b.top s) c.requires.stands.1 (laws.high s) above grades x c.requires.stands.0 i in
     let between = receivers_between (b.bases s) (laws.exchange s) (b.seats s) (laws.width s) (laws.few s).1 (b.top s) c.requires.stands.1 (laws.high s) above grades x c.requires.stands.0 i in
     let j = c.in-Some.j in
-    let graded = tested above x i c.standing_load-last.result j c.next_unit.result c.is_above.result true c.is_above.ensures c.standing_load-last.ensures c.next_unit.ensures c.if-is_above.true in
+    let graded : above i (get_or x i 0) j (get_or x j 0 + 1) ≡ true = cc in
     let member = c.loop-j.invariant.inside j c.in-Some.ensures.lowest.member in
     walk_taken (better_receiver above x) (λ k. Step (b.bases s) above x i k) c.args.reach one_way between c.loop-j.left c.take_lowest.new.left j c.in-Some.ensures
     (record { reach = (c.requires.exact j).0 member; graded = subst T (sym graded) tt }) c.loop-j.best (sym c.better_receiver.ensures ∙ c.if-better_receiver.true) c.loop-j.invariant
@@ -53,11 +48,11 @@ loop-j-preserved g c =
     let member = c.loop-j.invariant.inside j c.in-Some.ensures.lowest.member in
     elim c.else-is_above.branch [
       | else-is_above-via-then-is_above+else-better_receiver w ↦
-          (let graded = tested above x i c.standing_load-last.result j c.next_unit.result c.is_above.result true c.is_above.ensures c.standing_load-last.ensures c.next_unit.ensures w.if-is_above.true in
+          (let graded : above i (get_or x i 0) j (get_or x j 0 + 1) ≡ true = cc in
           walk_kept (better_receiver above x) (λ k. Step (b.bases s) above x i k) c.args.reach one_way between c.loop-j.left c.take_lowest.new.left j c.in-Some.ensures
           (record { reach = (c.requires.exact j).0 member; graded = subst T (sym graded) tt }) c.loop-j.best (sym w.better_receiver.ensures ∙ w.if-better_receiver.false) c.loop-j.invariant)
       | else-is_above-via-else-is_above w ↦
-          (let graded = tested above x i c.standing_load-last.result j c.next_unit.result c.is_above.result false c.is_above.ensures c.standing_load-last.ensures c.next_unit.ensures w.if-is_above.false in
+          (let graded : above i (get_or x i 0) j (get_or x j 0 + 1) ≡ false = cc in
           passed_over (better_receiver above x) (λ k. Step (b.bases s) above x i k) c.args.reach c.loop-j.left c.take_lowest.new.left j c.loop-j.best c.loop-j.invariant c.in-Some.ensures
           (λ step. subst T graded step.graded))
     ]

@@ -15,8 +15,11 @@ linked-requires c =
     let len = ap (λ (xs : List Leg). length xs) same in
     let l = d.lawful t (omega arith) in
     let few = d.few.1 in
-    subst (λ (xs : List Leg). ((leg_at xs t).a < 64) × (((leg_at xs t).b < 64) × ((leg_at xs t).a ≡ (leg_at xs t).b → ⊥))) (sym same)
-    (omega (arith, l.0), (omega (arith, l.1), l.2))
+    record {
+      a_is_seat = subst (λ (xs : List Leg). (leg_at xs t).a < 64) (sym same) (omega (arith, l.0));
+      b_is_seat = subst (λ (xs : List Leg). (leg_at xs t).b < 64) (sym same) (omega (arith, l.1));
+      ends_differ = subst (λ (xs : List Leg). (leg_at xs t).a ≡ (leg_at xs t).b → ⊥) (sym same) l.2;
+    }
 
 pub loop-t-init : goal.loop-t-init
 loop-t-init c = links_none (vec_items c.args.self.now.legs) c.args.self.now.first c.args.u
