@@ -4,7 +4,7 @@
 usage: python3 tools/respell.py [--check]    at the top of the repository, after port.py
 
 A name turns where a file of specs/ or proofs/ declares it with a dash or a capital inside, wherever it stands in the text of specs/, proofs/ and src/.
-What Rattle makes keeps its name: a goal, an invariant, a measure, and every label behind a dot. So do comments, strings and the functions of src/.
+What Rattle makes keeps its name: a goal, an invariant, a measure, and every label behind a dot that is no field of a record declared here. So do comments, strings and the functions of src/.
 Places where a name falls together with another are shown, to be looked at: a function of src/ may have the name of the definition that says what it returns.
 """
 

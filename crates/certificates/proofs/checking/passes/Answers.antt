@@ -19,7 +19,7 @@ returns g c =
     when_same c.closed.result (Closed (b.bases s) x c.args.set) (Passes (b.bases s) x c.args.value c.args.set)
     (λ shut. record {
       low = omega (arith, c.if-value-lt1.false);
-      high = omega (arith, c.if-value-gt-MOST_VALUE.false);
+      high = omega arith;
       seated = λ j h. (let seat = ((c.first.ensures j).0 (c.if-not-within.ensures j h)).0 in omega (arith, c.count.ensures));
       fits = c.if-not-fits.ensures;
       closed = shut;

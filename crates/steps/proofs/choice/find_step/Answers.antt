@@ -10,12 +10,13 @@ loop-i-init g c =
     let b = g.S.BaseSystem in
     let laws = g.met.S.BaseSystem in
     let s = c.args.s.now in (
-      c.first-left.type_inv,
-      λ k j out step. out ((c.first-left.ensures k).1 (
+      omega arith,
+      λ k j out step. (
           let seat = seat_of (b.loads s) k step.reach.gives in
           let w = laws.width s (b.loads s) c.requires.0 in
           let few = (laws.few s).1 in
-          (omega (arith, c.count.ensures), omega arith))),
+          let known : k < c.count.result = omega (arith, c.count.ensures) in
+          out (grind arith)),
     )
 
 pub best_receiver-requires : goal.best_receiver-requires
