@@ -18,7 +18,7 @@ returns g c =
     let w = g.met.S.BaseSystem.width s x c.requires.0 in
     when_same c.closed.result (Closed (b.bases s) x c.args.set) (Passes (b.bases s) x c.args.value c.args.set)
     (λ shut. record {
-      low = omega (arith, c.if-value-lt1.false);
+      low = omega arith;
       high = omega arith;
       seated = λ j h. (let seat = ((c.first.ensures j).0 (c.if-not-within.ensures j h)).0 in omega (arith, c.count.ensures));
       fits = c.if-not-fits.ensures;
