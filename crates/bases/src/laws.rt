@@ -2,35 +2,25 @@
 ghost use Rattle.std.specs.Prelude.{◌≡◌, ℕ, List, sum, ◌≢◌, slice_index};
 ghost use Rattle.seats.specs.Sets.{In, Exactly};
 ghost use Rattle.bases.specs.Exchange.{Reaches};
-ghost use Rattle.bases.specs.Says.{Stands};
 
 use crate::system::BaseSystem;
 
 // The standing load of seat i; 0 where i is no seat.
 pub fn standing_load<S: BaseSystem>(s: &S, i: u8) -> u32
-    requires { Stands (S.BaseSystem.bases s.now) (S.BaseSystem.loads s.now) (S.BaseSystem.top s.now) }
     ensures { result ≡ slice_index (S.BaseSystem.loads s.now) i }
 {
-    match s.load(i) {
-        Ok(load) => load,
-        Err(_) => 0,
-    }
+    s.load(i).unwrap_or(0)
 }
 
 // The seats in the reach of seat i; none where i is no seat.
 pub fn standing_reach<S: BaseSystem>(s: &S, i: u8) -> u64
-    requires { Stands (S.BaseSystem.bases s.now) (S.BaseSystem.loads s.now) (S.BaseSystem.top s.now) }
     ensures { (j : ℕ) → Exactly (In j result) (Reaches (S.BaseSystem.bases s.now) (S.BaseSystem.loads s.now) i j) }
 {
-    match s.reach(i) {
-        Ok(reach) => reach,
-        Err(_) => 0,
-    }
+    s.reach(i).unwrap_or(0)
 }
 
 // The sum of the standing loads, which is the sum of the loads of every base.
 pub fn total<S: BaseSystem>(s: &S) -> u32
-    requires { Stands (S.BaseSystem.bases s.now) (S.BaseSystem.loads s.now) (S.BaseSystem.top s.now) }
     ensures { (x : List ℕ) → S.BaseSystem.bases s.now x → sum x ≡ result }
 {
     let mut sum = 0;
@@ -42,6 +32,5 @@ pub fn total<S: BaseSystem>(s: &S) -> u32
 
 // Where i can give a unit to j, and j one to a third seat k, i can give one to k.
 pub fn reach_is_transitive<S: BaseSystem>(s: &S)
-    requires { Stands (S.BaseSystem.bases s.now) (S.BaseSystem.loads s.now) (S.BaseSystem.top s.now) }
     ensures { (i j k : ℕ) → (i ≢ k) → Reaches (S.BaseSystem.bases s.now) (S.BaseSystem.loads s.now) i j → Reaches (S.BaseSystem.bases s.now) (S.BaseSystem.loads s.now) j k → Reaches (S.BaseSystem.bases s.now) (S.BaseSystem.loads s.now) i k }
 {}

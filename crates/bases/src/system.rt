@@ -9,7 +9,7 @@ use faults::{Fault, Kind};
 
 // A base system has seats, bases (lists of one load for each seat) and one base on which it stands.
 // Only a shift that is not refused changes the standing base, and nothing changes the bases.
-// Each call covers every argument, on a system that stands on one of its bases.
+// It always stands on one of its bases: that is a law of the type, so no call asks for it. Each call covers every argument.
 pub trait BaseSystem {
     // the number of seats
     ghost seats: { Self → ℕ };
@@ -39,21 +39,19 @@ pub trait BaseSystem {
         ensures { result ≡ seats self.now };
 
     fn ceiling(&self) -> u32
-        requires { Stands (bases self.now) (loads self.now) (top self.now) }
         ensures { result ≡ top self.now };
 
     fn load(&self, i: u8) -> Result<u32, Fault>
-        requires { Stands (bases self.now) (loads self.now) (top self.now) }
         ensures { LoadSays (loads self.now) (layer self.now) i result };
 
     fn reach(&self, i: u8) -> Result<u64, Fault>
-        requires { Stands (bases self.now) (loads self.now) (top self.now) }
         ensures { ReachSays (bases self.now) (loads self.now) (layer self.now) i result };
 
     fn shift(&mut self, i: u8, j: u8) -> Result<u32, Fault>
-        requires { Stands (bases self.old) (loads self.old) (top self.old) }
-        ensures says { ShiftSays self.old self.new (bases self.old) (loads self.old) (refusal (seats self.old) (layer self.old) (why self.old) i j) (λ count. shifted self.old i j count self.new) i j result }
-        ensures stands { Stands (bases self.new) (loads self.new) (top self.new) };
+        ensures { ShiftSays self.old self.new (bases self.old) (loads self.old) (refusal (seats self.old) (layer self.old) (why self.old) i j) (λ count. shifted self.old i j count self.new) i j result };
+
+    // every value stands on one of its bases, and its ceiling is a load
+    ghost stands: { (s : Self) → Stands (bases s) (loads s) (top s) };
 
     ghost few: { (s : Self) → (1 ≤ seats s) × (seats s ≤ 64) };
 

@@ -7,4 +7,4 @@ returns g c i j k ik ij jk =
     let b = g.S.BaseSystem in
     let laws = g.met.S.BaseSystem in
     let s = c.args.s.now in
-    reach_joins (b.bases s) (laws.exchange s) (b.seats s) (laws.width s) (b.loads s) c.requires.0 i j k ik ij jk
+    reach_joins (b.bases s) (laws.exchange s) (b.seats s) (laws.width s) (b.loads s) (laws.stands s).0 i j k ik ij jk
