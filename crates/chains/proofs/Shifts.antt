@@ -5,9 +5,9 @@ use Rattle.faults.specs.declared.Kind.{Kind}
 use Rattle.faults.specs.declared.Reason.TheVariants.{NoSuchBase}
 use Rattle.faults.specs.Places.{fault_at}
 use Rattle.bases.specs.Exchange.{Reaches}
-use Rattle.bases.specs.Says.{Stands, Two, refusal}
+use Rattle.bases.specs.Says.{Two, refusal}
 use Rattle.bases.proofs.Refusals.{refusal_why, reach_two}
-use Rattle.items.specs.Fillings.{Shape, Divisions, Fills, loads_of}
+use Rattle.items.specs.Fillings.{Shape, Divisions, loads_of}
 use Rattle.items.proofs.Units.{length_loads, moved_loads}
 use Rattle.chains.specs.Chains.{Passed, Shifted}
 
@@ -32,7 +32,3 @@ module _ (shape : Shape) (f : ℕ → ℕ → ℕ) (i j : ℕ) where
     moves = moved_loads shape f g i j r.gives (let l = length_loads shape f in let t = r.takes in omega arith) r.other passed.loads;
     counts = passed.counts;
   }
-
--- a division always stands on the base of its loads
-pub always_stands : (shape : Shape) (f : ℕ → ℕ → ℕ) (most : ℕ) → Fills shape f → most ≤ 999999 → Stands (Divisions shape) (loads_of shape f) most
-always_stands shape f most fills small = ((f, fills, refl), small)

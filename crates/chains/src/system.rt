@@ -1,9 +1,8 @@
 // Divided items as a base system: its bases are the loads of all fillings.
-ghost use Rattle.std.specs.Prelude.{◌≡◌, ℕ, List, slice_index};
+ghost use Rattle.std.specs.Prelude.{◌≡◌, ℕ, List, slice_index, refl};
 ghost use Rattle.std.proofs.Common.{ap, ◌∙◌, sym, subst, ⊎_elim, arith, rules};
 ghost use Rattle.faults.specs.declared.Reason.TheVariants.{NoSuchBase};
 ghost use Rattle.faults.specs.Places.{fault_at};
-ghost use Rattle.bases.specs.Says.{Stands};
 ghost use Rattle.items.specs.Fillings.{Divisions, loads_of, Shape};
 ghost use Rattle.chains.specs.Chains.{Shifted};
 ghost use Rattle.chains.specs.Exact.{divisions_width};
@@ -28,8 +27,7 @@ pub struct Divided<D> {
 impl<D: Division> Divided<D> {
     // The system that stands on the present division.
     pub fn over(division: D) -> Divided<D>
-        ensures holds { result.division ≡ division }
-        ensures stands { Stands (Divisions (D.Division.shape result.division)) (loads_of (D.Division.shape result.division) (D.Division.amount result.division)) (D.Division.most result.division) }
+        ensures { result.division ≡ division }
     {
         Divided { division }
     }
@@ -56,6 +54,10 @@ impl<D: Division> BaseSystem for Divided<D> {
     ghost why = { λ s i j. fault_at NoSuchBase j (D.Division.sort s.division) };
 
     ghost shifted = { λ a i j count b. Shifted (D.Division.shape a.division) (D.Division.amount a.division) (D.Division.amount b.division) i j count × (D.Division.shape b.division ≡ D.Division.shape a.division) × (D.Division.most b.division ≡ D.Division.most a.division) × (D.Division.sort b.division ≡ D.Division.sort a.division) };
+
+    ghost stands = { λ s.
+        let d = D.Division in
+        ((d.amount s.division, d.fills s.division, refl), d.small s.division) };
 
     ghost few = { Prim.search rules };
 

@@ -5,7 +5,7 @@ use Rattle.faults.specs.declared.Reason.TheVariants.{NoSuchBase}
 use Rattle.faults.specs.Places.{fault_at}
 use Rattle.items.proofs.Units.{length_loads}
 use Rattle.chains.specs.Exact.{seen_reached, reached_seen}
-use Rattle.chains.proofs.Shifts.{refused_pair, refused_base, shifted_by, always_stands}
+use Rattle.chains.proofs.Shifts.{refused_pair, refused_base, shifted_by}
 use Rattle.chains.proofs.system.DividedBaseSystem.shift.Goals as goal
 
 pub from_seat-spread-requires : goal.from_seat-spread-requires
@@ -22,10 +22,7 @@ returns-in_err-pair_given g c =
     let p = err_from_is_err_and c.from_residual.result c.from_residual.ensures.1 in
     let due = refused_pair (d.shape store) (d.amount store) c.args.i c.args.j c.seats.result c.kind-kind.result (d.sort store)
     (λ _ receiver. fault_at NoSuchBase receiver (d.sort store)) c.in_err-pair_given.field-0.0 c.seats.ensures c.kind-kind.ensures c.in_err-pair_given.ensures in
-    record {
-      says = rw (p.1, p.2) (due.0, due.1, refl {a = c.args.self.now});
-      stands = always_stands (d.shape store) (d.amount store) (d.most store) (laws.fills store) (laws.small store);
-    }
+    rw (p.1, p.2) (due.0, due.1, refl {a = c.args.self.now})
 
 pub returns-then-not-has : goal.returns-then-not-has
 returns-then-not-has g c =
@@ -33,14 +30,11 @@ returns-then-not-has g c =
     let laws = g.met.D.Division in
     let store = c.args.self.now.division in
     let s = c.from_seat-spread.result in
-    record {
-      says = (
-        λ r. c.if-not-has.ensures (reached_seen (d.shape store) (d.amount store) (laws.fills store) c.args.i s.seen s.from s.far c.from_seat-spread.ensures c.args.j r),
-        c.at_seat.ensures ∙ refused_base (d.shape store) (d.amount store) c.args.i c.args.j c.seats.result c.kind-kind.result (d.sort store) c.seats.ensures c.kind-kind.ensures c.in_ok-pair_given.ensures,
-        refl {a = c.args.self.now},
-      );
-      stands = always_stands (d.shape store) (d.amount store) (d.most store) (laws.fills store) (laws.small store);
-    }
+    (
+      λ r. c.if-not-has.ensures (reached_seen (d.shape store) (d.amount store) (laws.fills store) c.args.i s.seen s.from s.far c.from_seat-spread.ensures c.args.j r),
+      c.at_seat.ensures ∙ refused_base (d.shape store) (d.amount store) c.args.i c.args.j c.seats.result c.kind-kind.result (d.sort store) c.seats.ensures c.kind-kind.ensures c.in_ok-pair_given.ensures,
+      refl {a = c.args.self.now},
+    )
 
 pub returns : goal.returns
 returns g c =
@@ -55,12 +49,9 @@ returns g c =
     (λ e. c.in_ok-pair_given.ensures.2 (sym e)) in
     let passed = c.relay_back.ensures.passes in
     let len = length_loads (d.shape store) (d.amount store) in
-    record {
-      says = (
-        reach,
-        passed.some,
-        (let short = passed.short in omega arith),
-        (shifted_by (d.shape store) (d.amount store) i j (d.amount after) c.relay_back.result reach passed, c.relay_back.ensures.keeps.0, c.relay_back.ensures.keeps.1, c.relay_back.ensures.keeps.2),
-      );
-      stands = always_stands (d.shape after) (d.amount after) (d.most after) (laws.fills after) (laws.small after);
-    }
+    (
+      reach,
+      passed.some,
+      (let short = passed.short in omega arith),
+      (shifted_by (d.shape store) (d.amount store) i j (d.amount after) c.relay_back.result reach passed, c.relay_back.ensures.keeps.0, c.relay_back.ensures.keeps.1, c.relay_back.ensures.keeps.2),
+    )
