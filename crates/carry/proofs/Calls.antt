@@ -10,6 +10,8 @@ use Rattle.bases.proofs.Refusals.{refusal_why}
 use Rattle.carry.specs.Carried.{added, largest, Carried, carry_answer}
 use Rattle.carry.specs.Added.{length_added}
 use Rattle.carry.specs.Layer.{reach_below, reach_above}
+use Rattle.carry.specs.declared.Carry.{Carry}
+use Rattle.std.proofs.Math.Bridge.{le_prop}
 
 module _ (x : List ℕ) (kind : Kind) (i : ℕ) where
   -- at a seat the reach is the reach below
@@ -28,6 +30,10 @@ pub refusal_raised : (n : ℕ) (kind : Kind) (why : ℕ → ℕ → Fault) (i j 
     → raised (refusal n kind why i j) ≡ refusal n CarryKind (λ k l. raised (why k l)) i j
 refusal_raised n kind why i j hi hj ne =
     ap raised (refusal_why n kind why i j hi hj ne) ∙ sym (refusal_why n CarryKind (λ k l. raised (why k l)) i j hi hj ne)
+
+-- a layer is known by the system below and by its table
+pub same_layer : {S : _} {b : _} (a : Carry S b) (t : S) (low : b.top t + largest a.table.carried ≤ 999999) → t ≡ a.below → ◌≡◌ {A = Carry S b} (record { below = t; table = a.table; low = low }) a
+same_layer {S} {b} a t low same = subst (λ (t : S). (l : b.top t + largest a.table.carried ≤ 999999) → ◌≡◌ {A = Carry S b} (record { below = t; table = a.table; low = l }) a) (sym same) (λ l. ap (λ l. record { below = a.below; table = a.table; low = l }) (le_prop l a.low)) low
 
 -- a shift of the layer is the shift below: where that one answers r, the layer answers r passed up
 pub shift_says : {S T : Type 0} (before after : S) (before' after' : T) (B : List ℕ → Type 0) (c x : List ℕ) (due due' : Fault) (Shifted Shifted' : ℕ → Type 0) (i j : ℕ) (r s : Result ℕ Fault)

@@ -1,12 +1,10 @@
 -- Loads with a number carried for each seat.
-use Rattle.std.specs.Prelude.{◌≡◌, ℕ, ◌+◌, max, cond, List, [], ◌∷◌, map, length, replicate, Ok, Err, Result, nat_le, nat_lt, slice_index, slice_set}
+use Rattle.std.specs.Prelude.{◌≡◌, ℕ, ◌+◌, max, cond, List, [], ◌∷◌, map, length, Ok, Err, Result, nat_le, nat_lt, slice_index, slice_set}
 use Rattle.std.specs.List.{range_with_len}
 use Rattle.faults.specs.declared.Fault.{Fault}
 use Rattle.faults.specs.declared.Kind.TheVariants.{Carry as CarryKind}
 use Rattle.faults.specs.declared.Reason.TheVariants.{NoSuchSeat, BeyondLimits, CeilingPassed}
 use Rattle.faults.specs.Places.{fault_at, fault_nowhere}
-use Rattle.bases.specs.Says.{Stands}
-use Rattle.carry.specs.declared.Carry.{Carry}
 
 -- the loads x with the number of each seat added; a seat past the numbers has 0
 abbrev pub added : List ℕ → List ℕ → List ℕ
@@ -20,18 +18,6 @@ largest (n ∷ c) = max n (largest c)
 -- the bases below with the numbers added
 abbrev pub Carried : List ℕ → (List ℕ → Type 0) → List ℕ → Type 0
 Carried c B x = (y : List ℕ) × B y × (x ≡ added c y)
-
--- the layer stands where it carries c, over a system with the bases B, the standing loads x and that ceiling
-abbrev pub StandsOver : List ℕ → (List ℕ → Type 0) → List ℕ → ℕ → Type 0
-StandsOver c B x ceiling = Stands (Carried c B) (added c x) (ceiling + largest c)
-
--- the layer over a system, with nothing carried
-abbrev pub laid : {S : Type 0} → S → Carry S
-laid below = record { below = below; table = record { carried = replicate 64 0 } }
-
--- the layer with the number of seat i replaced by n
-abbrev pub carrying : {S : Type 0} → Carry S → ℕ → ℕ → Carry S
-carrying a i n = record { below = a.below; table = record { carried = slice_set a.table.carried i n } }
 
 -- The answer to the wish that seat i carry n, over a system of that many seats with that ceiling, where c is carried:
 -- refused where i is no seat, then where n is too large, then where the ceiling after the change would be too large.

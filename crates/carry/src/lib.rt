@@ -1,13 +1,12 @@
 // A layer that carries a number for each seat, which is added to that seat's load in every base.
 #![tactic(auto)]
 
-ghost use Rattle.std.specs.Prelude.{◌≡◌, ℕ, ◌+◌, ◌<◌, MatchResult, slice_index, refl};
+ghost use Rattle.std.specs.Prelude.{◌≡◌, ℕ, ◌+◌, ◌<◌, ◌≤◌, MatchResult, replicate, slice_index, slice_set, refl};
 ghost use Rattle.std.proofs.Common.{ap₂, sym, ◌∙◌, ap, rules};
 ghost use Rattle.faults.specs.declared.Kind.TheVariants.{Carry as CarryKind};
 ghost use Rattle.faults.specs.Depth.{raised};
-ghost use Rattle.bases.specs.Says.{Stands};
-ghost use Rattle.carry.specs.Carried.{added, largest as largest_of, Carried, StandsOver, laid, carrying, carry_answer};
-ghost use Rattle.carry.specs.Layer.{carried_width, carried_high, carried_exchange, carried_same};
+ghost use Rattle.carry.specs.Carried.{added, largest as largest_of, Carried, carry_answer};
+ghost use Rattle.carry.specs.Layer.{base_above, carried_width, carried_high, carried_exchange, carried_same};
 ghost use Rattle.carry.specs.Added.{added_moved};
 
 use bases::{BaseSystem, pair_given, seat_given};
@@ -25,11 +24,12 @@ pub struct CarryTable {
     carried: [u32; 64],
 }
 
-// Any base system with a table of numbers above it.
+// Any base system with a table of numbers above it; the highest load there can be is still a load.
 #[derive(Drop)]
-pub struct Carry<S> {
+pub struct Carry<S: BaseSystem> {
     below: S,
     table: CarryTable,
+    ghost low: { S.BaseSystem.top below + largest_of table.carried ≤ 999999 },
 }
 
 impl<S: BaseSystem> BaseSystem for Carry<S> {
@@ -47,6 +47,8 @@ impl<S: BaseSystem> BaseSystem for Carry<S> {
 
     // the unit comes from below, not from the number carried
     ghost shifted = { λ a i j count b. (a.table.carried ≡ b.table.carried) × S.BaseSystem.shifted a.below i j count b.below × (0 < slice_index (S.BaseSystem.loads a.below) i) };
+
+    ghost stands = { λ s. (base_above (S.BaseSystem.bases s.below) s.table.carried (S.BaseSystem.loads s.below) (S.BaseSystem.stands s.below).0, s.low) };
 
     ghost few = { Prim.search rules };
 
@@ -106,10 +108,10 @@ impl<S: BaseSystem> BaseSystem for Carry<S> {
 }
 
 impl<S: BaseSystem> Carry<S> {
-    // Lays the layer over a system: nothing is carried. Where the system below stands, the layer does.
+    // Lays the layer over a system: nothing is carried.
     pub fn over(below: S) -> Carry<S>
-        ensures lays { result ≡ laid below }
-        ensures stands { Stands (S.BaseSystem.bases below) (S.BaseSystem.loads below) (S.BaseSystem.top below) → StandsOver result.table.carried (S.BaseSystem.bases result.below) (S.BaseSystem.loads result.below) (S.BaseSystem.top result.below) }
+        ensures below { result.below ≡ below }
+        ensures carried { result.table.carried ≡ replicate 64 0 }
     {
         Carry {
             below,
@@ -119,10 +121,8 @@ impl<S: BaseSystem> Carry<S> {
 
     // Replaces the number of one seat.
     pub fn carry(&mut self, i: u8, c: u32) -> Result<(), Fault>
-        requires { StandsOver self.old.table.carried (S.BaseSystem.bases self.old.below) (S.BaseSystem.loads self.old.below) (S.BaseSystem.top self.old.below) }
         ensures answers { result ≡ carry_answer (S.BaseSystem.seats self.old.below) (S.BaseSystem.top self.old.below) self.old.table.carried i c }
-        ensures then { MatchResult result (λ _. self.new ≡ carrying self.old i c) (λ _. self.new ≡ self.old) }
-        ensures stands { StandsOver self.new.table.carried (S.BaseSystem.bases self.new.below) (S.BaseSystem.loads self.new.below) (S.BaseSystem.top self.new.below) }
+        ensures then { MatchResult result (λ _. (self.new.below ≡ self.old.below) × (self.new.table.carried ≡ slice_set self.old.table.carried i c)) (λ _. self.new ≡ self.old) }
     {
         seat_given(i, self.below.count(), Kind::Carry)?;
         if c > MOST_CARRIED {
