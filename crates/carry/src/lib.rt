@@ -11,12 +11,7 @@ ghost use Rattle.carry.specs.Added.{added_moved};
 
 use bases::{BaseSystem, pair_given, seat_given};
 use faults::{Fault, Kind, Reason, passed_up};
-
-// The largest number that may be carried.
-const MOST_CARRIED: u32 = 900_000;
-
-// The largest ceiling that a system may have.
-const HIGHEST_CEILING: u32 = 999_999;
+use limits::{HIGHEST_LOAD, MOST_CARRIED};
 
 // One number for each seat that there can be.
 #[derive(Drop)]
@@ -130,7 +125,7 @@ impl<S: BaseSystem> Carry<S> {
         }
         let mut after = self.table.carried;
         after[i as usize] = c;
-        if self.below.ceiling() + largest(&after) > HIGHEST_CEILING {
+        if self.below.ceiling() + largest(&after) > HIGHEST_LOAD {
             return Err(Fault::at_seat(Reason::CeilingPassed, i, Kind::Carry));
         }
         self.table.carried[i as usize] = c;
@@ -149,9 +144,7 @@ impl<S: BaseSystem> Carry<S> {
 fn largest(numbers: &[u32; 64]) -> u32
     ensures { result ≡ largest_of numbers.now }
 {
-    let mut most: u32 = 0;
-    for number in numbers {
-        most = most.max(*number);
-    }
-    most
+    numbers
+        .iter()
+        .fold(0, |most: u32, number| most.max(*number))
 }

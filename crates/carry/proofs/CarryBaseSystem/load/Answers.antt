@@ -1,7 +1,6 @@
 -- The load below and the number carried; at a seat the system below does not refuse.
 use Rattle.std.proofs.Common.{◌<◌, length, sym, ◌∙◌, arith}
 use Rattle.std.proofs.lemmas.Result.{err_from_is_err_and}
-use Rattle.carry.specs.Carried.{added}
 use Rattle.carry.specs.Added.{length_added, added_at, largest_high}
 use Rattle.bases.proofs.Refusals.{load_passed, load_no_fault}
 use Rattle.carry.proofs.CarryBaseSystem.load.Goals as goal

@@ -1,7 +1,6 @@
 -- The reach is the reach below.
 use Rattle.std.proofs.Common.{◌<◌, length, arith, rules}
 use Rattle.std.proofs.lemmas.Result.{err_from_is_err_and}
-use Rattle.carry.specs.Carried.{added}
 use Rattle.carry.specs.Added.{length_added}
 use Rattle.carry.proofs.Calls.{reach_says}
 use Rattle.carry.proofs.CarryBaseSystem.reach.Goals as goal

@@ -5,9 +5,8 @@ use Rattle.faults.specs.Depth.{raised}
 use Rattle.bases.specs.Says.{refusal}
 use Rattle.carry.specs.Carried.{added, Carried}
 use Rattle.carry.specs.Added.{length_added}
-use Rattle.carry.specs.Layer.{base_above, carried_width}
 use Rattle.std.proofs.lemmas.Result.{err_from_is_err_and}
-use Rattle.bases.proofs.Refusals.{reach_two, shift_keeps}
+use Rattle.bases.proofs.Refusals.{reach_two}
 use Rattle.carry.proofs.Calls.{shift_says, refusal_raised, same_layer}
 use Rattle.carry.proofs.CarryBaseSystem.shift.Goals as goal
 
