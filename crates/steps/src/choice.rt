@@ -1,6 +1,5 @@
 // The step to take: both seats together, donor first.
 ghost use Rattle.std.specs.Option.{MatchOption};
-ghost use Rattle.bases.specs.Says.{Stands};
 ghost use Rattle.optima.specs.Steps.{LevelBy};
 ghost use Rattle.steps.specs.Chosen.{Chosen};
 
@@ -13,7 +12,6 @@ use seats::{first, with, without};
 // The step to take, or none exactly when there is no step. Donors are asked for their reach from the highest graded down,
 // and none is asked that lies in the reach of one that has no step: it has none either.
 pub fn find_step<S: BaseSystem, G: Grading>(s: &S, grading: &G) -> Option<(u8, u8)>
-    requires { Stands (S.BaseSystem.bases s.now) (S.BaseSystem.loads s.now) (S.BaseSystem.top s.now) }
     ensures { MatchOption result (LevelBy (S.BaseSystem.bases s.now) (G.Grading.above grading.now) (S.BaseSystem.loads s.now)) (λ step. Chosen (S.BaseSystem.bases s.now) (G.Grading.above grading.now) (S.BaseSystem.loads s.now) step.0 step.1) }
 {
     let mut left = first(s.count());

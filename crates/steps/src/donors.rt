@@ -1,7 +1,6 @@
 // The donor among some seats: the one whose last unit is graded highest.
 ghost use Rattle.std.specs.Prelude.{◌≡◌, ℕ, ◌<◌, MatchOption, slice_index};
 ghost use Rattle.seats.specs.Sets.{In};
-ghost use Rattle.bases.specs.Says.{Stands};
 ghost use Rattle.steps.specs.Chosen.{Foremost, better_donor, beats_best};
 
 use bases::{BaseSystem, standing_load};
@@ -10,7 +9,6 @@ use seats::take_lowest;
 
 // Whether i is a better donor than the best so far.
 fn better_donor<S: BaseSystem, G: Grading>(s: &S, grading: &G, best: Option<u8>, i: u8) -> bool
-    requires { Stands (S.BaseSystem.bases s.now) (S.BaseSystem.loads s.now) (S.BaseSystem.top s.now) }
     ensures { result ≡ beats_best (better_donor (G.Grading.above grading.now) (S.BaseSystem.loads s.now) i) best }
 {
     match best {
@@ -21,7 +19,6 @@ fn better_donor<S: BaseSystem, G: Grading>(s: &S, grading: &G, best: Option<u8>,
 
 // The best of the seats that have a unit to give.
 pub fn best_donor<S: BaseSystem, G: Grading>(s: &S, grading: &G, seats: u64) -> Option<u8>
-    requires { Stands (S.BaseSystem.bases s.now) (S.BaseSystem.loads s.now) (S.BaseSystem.top s.now) }
     ensures { MatchOption result ((i : ℕ) → In i seats → 0 < slice_index (S.BaseSystem.loads s.now) i → ⊥) (λ i. Foremost (better_donor (G.Grading.above grading.now) (S.BaseSystem.loads s.now)) (λ k. In k seats × (0 < slice_index (S.BaseSystem.loads s.now) k)) i) }
 {
     let mut best = None;

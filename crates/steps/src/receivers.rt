@@ -2,7 +2,6 @@
 ghost use Rattle.std.specs.Prelude.{◌≡◌, ℕ, MatchOption};
 ghost use Rattle.seats.specs.Sets.{In, Exactly};
 ghost use Rattle.bases.specs.Exchange.{Reaches};
-ghost use Rattle.bases.specs.Says.{Stands};
 ghost use Rattle.optima.specs.Steps.{Step};
 ghost use Rattle.steps.specs.Chosen.{Foremost, better_receiver, beats_best};
 
@@ -13,7 +12,6 @@ use seats::take_lowest;
 
 // Whether j is a better receiver than the best so far.
 fn better_receiver<S: BaseSystem, G: Grading>(s: &S, grading: &G, best: Option<u8>, j: u8) -> bool
-    requires { Stands (S.BaseSystem.bases s.now) (S.BaseSystem.loads s.now) (S.BaseSystem.top s.now) }
     ensures { result ≡ beats_best (better_receiver (G.Grading.above grading.now) (S.BaseSystem.loads s.now) j) best }
 {
     match best {
@@ -24,8 +22,7 @@ fn better_receiver<S: BaseSystem, G: Grading>(s: &S, grading: &G, best: Option<u
 
 // The best receiver of a step from i, whose reach is given.
 pub fn best_receiver<S: BaseSystem, G: Grading>(s: &S, grading: &G, i: u8, reach: u64) -> Option<u8>
-    requires stands { Stands (S.BaseSystem.bases s.now) (S.BaseSystem.loads s.now) (S.BaseSystem.top s.now) }
-    requires exact { (j : ℕ) → Exactly (In j reach) (Reaches (S.BaseSystem.bases s.now) (S.BaseSystem.loads s.now) i j) }
+    requires { (j : ℕ) → Exactly (In j reach) (Reaches (S.BaseSystem.bases s.now) (S.BaseSystem.loads s.now) i j) }
     ensures { MatchOption result ((j : ℕ) → Step (S.BaseSystem.bases s.now) (G.Grading.above grading.now) (S.BaseSystem.loads s.now) i j → ⊥) (λ j. Foremost (better_receiver (G.Grading.above grading.now) (S.BaseSystem.loads s.now)) (λ l. Step (S.BaseSystem.bases s.now) (G.Grading.above grading.now) (S.BaseSystem.loads s.now) i l) j) }
 {
     let last = standing_load(s, i);

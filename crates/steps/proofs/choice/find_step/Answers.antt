@@ -13,14 +13,14 @@ loop-i-init g c =
       omega arith,
       λ k j out step. (
           let seat = seat_of (b.loads s) k step.reach.gives in
-          let w = laws.width s (b.loads s) c.requires.0 in
+          let w = laws.width s (b.loads s) (laws.stands s).0 in
           let few = (laws.few s).1 in
           let known : k < c.count.result = omega (arith, c.count.ensures) in
           out (grind arith)),
     )
 
 pub best_receiver-requires : goal.best_receiver-requires
-best_receiver-requires g c = record { stands = c.requires; exact = c.standing_reach-reach.ensures }
+best_receiver-requires g c = c.standing_reach-reach.ensures
 
 pub returns-in-Some-best_receiver : goal.returns-in-Some-best_receiver
 returns-in-Some-best_receiver g c =
@@ -30,7 +30,7 @@ returns-in-Some-best_receiver g c =
     let x = b.loads s in
     let above = g.G.Grading.above c.args.grading.now in
     let grades = g.met.G.Grading.order c.args.grading.now in
-    chosen_step (b.bases s) (laws.exchange s) (b.seats s) (laws.width s) (laws.few s).1 (b.top s) c.requires.1 (laws.high s) above grades x c.requires.0 c.loop-i.left c.in-Some.i c.loop-i.invariant.1 c.in-Some.ensures c.in-Some-best_receiver.j c.in-Some-best_receiver.ensures
+    chosen_step (b.bases s) (laws.exchange s) (b.seats s) (laws.width s) (laws.few s).1 (b.top s) (laws.stands s).1 (laws.high s) above grades x (laws.stands s).0 c.loop-i.left c.in-Some.i c.loop-i.invariant.1 c.in-Some.ensures c.in-Some-best_receiver.j c.in-Some-best_receiver.ensures
 
 pub loop-i-smaller : goal.loop-i-smaller
 loop-i-smaller g c =
@@ -42,8 +42,8 @@ loop-i-smaller g c =
     let grades = g.met.G.Grading.order c.args.grading.now in
     let i = c.in-Some.i in
     let donor = c.in-Some.ensures in
-    let low : c.in-Some.i < 64 = (let seat = seat_of x i donor.has.1 in let w = laws.width s x c.requires.0 in let few = (laws.few s).1 in omega arith) in
-    fewer_left (b.bases s) (laws.exchange s) (b.seats s) (laws.width s) (laws.few s).1 (b.top s) c.requires.1 (laws.high s) above grades x c.requires.0 c.loop-i.left i c.loop-i.invariant.1 donor c.without-left.result c.standing_reach-reach.result c.with.result low c.loop-i.invariant.0 c.without-left.type_inv c.with.ensures c.without-left.ensures
+    let low : c.in-Some.i < 64 = (let seat = seat_of x i donor.has.1 in let w = laws.width s x (laws.stands s).0 in let few = (laws.few s).1 in omega arith) in
+    fewer_left (b.bases s) (laws.exchange s) (b.seats s) (laws.width s) (laws.few s).1 (b.top s) (laws.stands s).1 (laws.high s) above grades x (laws.stands s).0 c.loop-i.left i c.loop-i.invariant.1 donor c.without-left.result c.standing_reach-reach.result c.with.result low c.loop-i.invariant.0 c.without-left.type_inv c.with.ensures c.without-left.ensures
 
 pub loop-i-preserved : goal.loop-i-preserved
 loop-i-preserved g c =
@@ -55,9 +55,9 @@ loop-i-preserved g c =
     let grades = g.met.G.Grading.order c.args.grading.now in
     let i = c.in-Some.i in
     let donor = c.in-Some.ensures in
-    let low : c.in-Some.i < 64 = (let seat = seat_of x i donor.has.1 in let w = laws.width s x c.requires.0 in let few = (laws.few s).1 in omega arith) in (
+    let low : c.in-Some.i < 64 = (let seat = seat_of x i donor.has.1 in let w = laws.width s x (laws.stands s).0 in let few = (laws.few s).1 in omega arith) in (
       c.without-left.type_inv,
-      left_out (b.bases s) (laws.exchange s) (b.seats s) (laws.width s) (laws.few s).1 (b.top s) c.requires.1 (laws.high s) above grades x c.requires.0 c.loop-i.left i c.loop-i.invariant.1 donor c.without-left.result c.standing_reach-reach.result c.with.result low c.standing_reach-reach.ensures c.with.ensures c.without-left.ensures c.in_default-best_receiver.ensures,
+      left_out (b.bases s) (laws.exchange s) (b.seats s) (laws.width s) (laws.few s).1 (b.top s) (laws.stands s).1 (laws.high s) above grades x (laws.stands s).0 c.loop-i.left i c.loop-i.invariant.1 donor c.without-left.result c.standing_reach-reach.result c.with.result low c.standing_reach-reach.ensures c.with.ensures c.without-left.ensures c.in_default-best_receiver.ensures,
     )
 
 -- where no seat that is left has a unit, there is no step

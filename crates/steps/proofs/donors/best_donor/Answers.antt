@@ -19,8 +19,8 @@ loop-i-preserved-then-better_donor g c =
     let x = b.loads s in
     let above = g.G.Grading.above c.args.grading.now in
     let grades = g.met.G.Grading.order c.args.grading.now in
-    let one_way = donors_one_way (b.bases s) (laws.exchange s) (b.seats s) (laws.width s) (laws.few s).1 (b.top s) c.requires.1 (laws.high s) above grades x c.requires.0 in
-    let between = donors_between (b.bases s) (laws.exchange s) (b.seats s) (laws.width s) (laws.few s).1 (b.top s) c.requires.1 (laws.high s) above grades x c.requires.0 in
+    let one_way = donors_one_way (b.bases s) (laws.exchange s) (b.seats s) (laws.width s) (laws.few s).1 (b.top s) (laws.stands s).1 (laws.high s) above grades x (laws.stands s).0 in
+    let between = donors_between (b.bases s) (laws.exchange s) (b.seats s) (laws.width s) (laws.few s).1 (b.top s) (laws.stands s).1 (laws.high s) above grades x (laws.stands s).0 in
     walk_taken (better_donor above x) (λ k. 0 < get_or x k 0) c.args.seats one_way between c.loop-i.left c.take_lowest.new.left c.in-Some.i c.in-Some.ensures
     (omega (arith, c.standing_load.ensures)) c.loop-i.best (sym c.better_donor.ensures ∙ c.if-better_donor.true) c.loop-i.invariant
 
@@ -32,8 +32,8 @@ loop-i-preserved g c =
     let x = b.loads s in
     let above = g.G.Grading.above c.args.grading.now in
     let grades = g.met.G.Grading.order c.args.grading.now in
-    let one_way = donors_one_way (b.bases s) (laws.exchange s) (b.seats s) (laws.width s) (laws.few s).1 (b.top s) c.requires.1 (laws.high s) above grades x c.requires.0 in
-    let between = donors_between (b.bases s) (laws.exchange s) (b.seats s) (laws.width s) (laws.few s).1 (b.top s) c.requires.1 (laws.high s) above grades x c.requires.0 in
+    let one_way = donors_one_way (b.bases s) (laws.exchange s) (b.seats s) (laws.width s) (laws.few s).1 (b.top s) (laws.stands s).1 (laws.high s) above grades x (laws.stands s).0 in
+    let between = donors_between (b.bases s) (laws.exchange s) (b.seats s) (laws.width s) (laws.few s).1 (b.top s) (laws.stands s).1 (laws.high s) above grades x (laws.stands s).0 in
     elim c.else-standing_load-gt0.branch [
       | else-standing_load-gt0-via-then-standing_load-gt0+else-better_donor w ↦
           walk_kept (better_donor above x) (λ k. 0 < get_or x k 0) c.args.seats one_way between c.loop-i.left c.take_lowest.new.left c.in-Some.i c.in-Some.ensures
