@@ -1,8 +1,6 @@
 // Levelling: the steps to take, one after another, until none is left or the budget is spent.
 #![tactic(auto)]
 
-pub mod answer;
 pub mod levelling;
 
-pub use answer::Answer;
 pub use levelling::level;
