@@ -1,2 +1,2 @@
-pub mod Foremost
+pub mod Walks
 pub mod Graded

@@ -3,6 +3,7 @@
 
 pub mod choice;
 mod donors;
+mod foremost;
 mod receivers;
 mod units;
 

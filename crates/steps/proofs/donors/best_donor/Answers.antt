@@ -1,7 +1,7 @@
 -- The walk, turn by turn.
 use Rattle.std.proofs.Common.{ℕ, ◌<◌, get_or, sym, ◌∙◌, subst, arith}
 use Rattle.steps.specs.Chosen.{better_donor}
-use Rattle.steps.proofs.Foremost.{Walk, not_walked, all_walked, passed_over, walk_taken, walk_kept}
+use Rattle.steps.proofs.Walks.{Walk, not_walked, all_walked, passed_over, walk_taken, walk_kept}
 use Rattle.steps.proofs.Graded.{donors_one_way, donors_between}
 use Rattle.steps.proofs.donors.best_donor.Goals as goal
 use Rattle.steps.proofs.donors.best_donor.Goals.{else-standing_load-gt0-via-then-standing_load-gt0+else-better_donor, else-standing_load-gt0-via-else-standing_load-gt0}

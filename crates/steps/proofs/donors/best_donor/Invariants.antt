@@ -1,6 +1,6 @@
 use Rattle.std.proofs.Common.{◌<◌, get_or}
 use Rattle.steps.specs.Chosen.{better_donor}
-use Rattle.steps.proofs.Foremost.{Walk}
+use Rattle.steps.proofs.Walks.{Walk}
 use Rattle.steps.proofs.donors.best_donor.Given as goal
 
 abbrev pub invariant-loop-i : goal.invariant-loop-i

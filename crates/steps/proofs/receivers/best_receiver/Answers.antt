@@ -2,7 +2,7 @@
 use Rattle.std.proofs.Common.{◌≡◌, ℕ, ◌+◌, true, false, T, get_or, sym, ◌∙◌, subst}
 use Rattle.optima.specs.Steps.{Step}
 use Rattle.steps.specs.Chosen.{better_receiver}
-use Rattle.steps.proofs.Foremost.{Walk, not_walked, all_walked, passed_over, walk_taken, walk_kept}
+use Rattle.steps.proofs.Walks.{Walk, not_walked, all_walked, passed_over, walk_taken, walk_kept}
 use Rattle.steps.proofs.Graded.{receivers, receivers_one_way, receivers_between}
 use Rattle.steps.proofs.receivers.best_receiver.Goals as goal
 use Rattle.steps.proofs.receivers.best_receiver.Goals.{else-is_above-via-then-is_above+else-better_receiver, else-is_above-via-else-is_above}

@@ -1,6 +1,6 @@
 use Rattle.optima.specs.Steps.{Step}
 use Rattle.steps.specs.Chosen.{better_receiver}
-use Rattle.steps.proofs.Foremost.{Walk}
+use Rattle.steps.proofs.Walks.{Walk}
 use Rattle.steps.proofs.receivers.best_receiver.Given as goal
 
 abbrev pub invariant-loop-j : goal.invariant-loop-j

@@ -4,6 +4,7 @@ use Rattle.std.proofs.lemmas.Bool.{cases_eq, cases_lt}
 use Rattle.seats.specs.Sets.{In, Within, Taken}
 use Rattle.seats.proofs.Members.{in_none}
 use Rattle.steps.specs.Chosen.{Before, Foremost, beats_best}
+use Rattle.steps.specs.Choices.{Among}
 
 -- the seats that have been walked: those of the set that are no longer left
 abbrev pub Gone : ℕ → ℕ → ℕ → Type 0
@@ -126,3 +127,11 @@ module _ (better : ℕ → ℕ → Bool) (P : ℕ → Type 0) (set : ℕ) where
     pub walk_kept : (best : Option ℕ) → beats_best (better c) best ≡ false → Walk better P set left best → Walk better P set left' best
     walk_kept None e w = absurd (let z : ◌≡◌ {A = ℕ} 0 1 = cc in omega arith)
     walk_kept (Some a) e w = kept a w (λ t. subst T e t)
+
+-- where none is left, the best is the foremost of the seats of the set that pass the test
+pub chosen_among : (before : ℕ → ℕ → Bool) (set : ℕ) (test : ℕ → Bool) (best : Option ℕ) → Walk before (Among set test) set 0 best
+    → MatchOption best ((i : ℕ) → In i set → T (test i) → ⊥) (λ i. Foremost before (Among set test) i)
+chosen_among before set test None w = λ i h t. all_walked before (Among set test) set None w i h (h, t)
+chosen_among before set test (Some a) w =
+    let f = all_walked before (Among set test) set (Some a) w in
+    record { has = f.has.1; none_before = λ b p. f.none_before b (p.0, p) }
