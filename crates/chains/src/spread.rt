@@ -4,7 +4,7 @@ ghost use Rattle.chains.specs.Chains.{Distances};
 ghost use Rattle.chains.specs.Spreads.{Marked, Spreading};
 
 use items::Division;
-use seats::{take_lowest, union, with, without};
+use seats::{members_of, union, with, without};
 
 // The seats seen so far; of each the seat before it on a shortest chain, and how many links away it is.
 #[derive(Drop)]
@@ -19,8 +19,7 @@ impl Spread {
     fn mark(&mut self, new: u64, u: u8, depth: u8)
         ensures { Marked new u depth self.old.seen self.new.seen self.old.from self.new.from self.old.far self.new.far }
     {
-        let mut left = new;
-        while let Some(v) = take_lowest(&mut left) {
+        for v in members_of(new) {
             self.from[v as usize] = u;
             self.far[v as usize] = depth;
         }
@@ -33,9 +32,8 @@ impl Spread {
         requires near { depth < 64 }
         ensures { Spreading (D.Division.shape division.now) (D.Division.amount division.now) i self.new.seen self.new.from self.new.far 0 result depth }
     {
-        let mut left = edge;
         let mut next = 0;
-        while let Some(u) = take_lowest(&mut left) {
+        for u in members_of(edge) {
             let new = without(division.links(u), self.seen);
             self.mark(new, u, depth + 1);
             next = union(next, new);

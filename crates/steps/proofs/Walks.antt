@@ -130,7 +130,7 @@ module _ (better : ℕ → ℕ → Bool) (P : ℕ → Type 0) (set : ℕ) where
 
 -- where none is left, the best is the foremost of the seats of the set that pass the test
 pub chosen_among : (before : ℕ → ℕ → Bool) (set : ℕ) (test : ℕ → Bool) (best : Option ℕ) → Walk before (Among set test) set 0 best
-    → MatchOption best ((i : ℕ) → In i set → T (test i) → ⊥) (λ i. Foremost before (Among set test) i)
+    → MatchOption best ((i : ℕ) → In i set → test i ≡ true → ⊥) (λ i. Foremost before (Among set test) i)
 chosen_among before set test None w = λ i h t. all_walked before (Among set test) set None w i h (h, t)
 chosen_among before set test (Some a) w =
     let f = all_walked before (Among set test) set (Some a) w in

@@ -1,5 +1,5 @@
 -- Choosing one of several seats by tests that others give.
-use Rattle.std.specs.Prelude.{◌≡◌, ℕ, ◌<◌, Bool, T, ◌⊎◌}
+use Rattle.std.specs.Prelude.{◌≡◌, ℕ, ◌<◌, Bool, true, T, ◌⊎◌}
 use Rattle.seats.specs.Sets.{In}
 
 -- what a test of a seat answers is `test` of it
@@ -12,7 +12,7 @@ Compares answers before = (i j : ℕ) (r : Bool) → i < 64 → j < 64 → answe
 
 -- the seats of a set that pass a test
 abbrev pub Among : ℕ → (ℕ → Bool) → ℕ → Type 0
-Among set test k = In k set × T (test k)
+Among set test k = In k set × (test k ≡ true)
 
 -- an order of the seats with P: of two at most one goes before the other, and where a goes before b, each c is behind a or goes before b
 pub record Orders (before : ℕ → ℕ → Bool) (P : ℕ → Type 0) : Type 0 where

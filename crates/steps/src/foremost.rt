@@ -1,10 +1,10 @@
 // The foremost of some seats.
-ghost use Rattle.std.specs.Prelude.{◌≡◌, ℕ, ◌<◌, Bool, T, MatchOption, IfSome};
+ghost use Rattle.std.specs.Prelude.{◌≡◌, ℕ, ◌<◌, Bool, true, MatchOption, IfSome};
 ghost use Rattle.seats.specs.Sets.{In};
 ghost use Rattle.steps.specs.Chosen.{Foremost, beats_best};
 ghost use Rattle.steps.specs.Choices.{Decides, Compares, Orders, Among};
 
-use seats::take_lowest;
+use seats::members_of;
 
 // Of those seats that may be chosen the one that goes before every other; of two that tie, the lower seat. `may` says which may be
 // chosen, and `better` whether the first seat given goes before the second, whatever tests of seats the two decide.
@@ -15,11 +15,10 @@ pub fn foremost<M: Fn(u8) -> bool, B: Fn(u8, u8) -> bool>(
 ) -> Option<u8>
     requires may { M.IsAlwaysCallable may }
     requires better { B.IsAlwaysCallable better }
-    ensures { (test : ℕ → Bool) (before : ℕ → ℕ → Bool) → Decides (M.post may) test → Compares (B.post better) before → Orders before (Among seats test) → MatchOption result ((i : ℕ) → In i seats → T (test i) → ⊥) (Foremost before (Among seats test)) }
+    ensures { (test : ℕ → Bool) (before : ℕ → ℕ → Bool) → Decides (M.post may) test → Compares (B.post better) before → Orders before (Among seats test) → MatchOption result ((i : ℕ) → In i seats → test i ≡ true → ⊥) (Foremost before (Among seats test)) }
 {
     let mut best = None;
-    let mut left = seats;
-    while let Some(i) = take_lowest(&mut left) {
+    for i in members_of(seats) {
         if may(i) && beats(&better, i, best) {
             best = Some(i);
         }

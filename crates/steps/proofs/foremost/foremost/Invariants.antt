@@ -9,7 +9,4 @@ abbrev pub invariant-loop-i : goal.invariant-loop-i
 invariant-loop-i g l =
     goal.M-IsAlwaysCallable g l.may × goal.B-IsAlwaysCallable g l.better × IfSome l.best (λ b. b < 64)
     × ((test : ℕ → Bool) (before : ℕ → ℕ → Bool) → Decides (goal.M-post g l.may) test → Compares (goal.B-post g l.better) before
-    → Orders before (Among l.seats test) → Walk before (Among l.seats test) l.seats l.left l.best)
-
-abbrev pub decreases-loop-i : goal.decreases-loop-i
-decreases-loop-i g l = l.left
+    → Orders before (Among l.seats test) → Walk before (Among l.seats test) l.seats l.i-iterator.left l.best)

@@ -8,5 +8,5 @@ loop-u-preserved g c =
     let old = c.loop-u.self in
     let new = c.mark.new.self in
     one_turn (d.shape store) (d.amount store) c.args.i old.seen new.seen old.from new.from old.far new.far
-    c.loop-u.left c.take_lowest.new.left c.loop-u.next c.union-next.result c.args.depth c.in-Some.u c.links.result c.without-new.result
-    c.loop-u.invariant c.in-Some.ensures c.links.ensures c.without-new.ensures c.mark.ensures c.union-next.ensures
+    c.loop-u.u-iterator.left c.next.new.self.left c.loop-u.next c.union-next.result c.args.depth c.in-Some.u c.links.result c.without-new.result
+    c.loop-u.invariant c.in-Some.ensures.steps c.links.ensures c.without-new.ensures c.mark.ensures c.union-next.ensures

@@ -2,7 +2,4 @@ use Rattle.chains.specs.Spreads.{Spreading}
 use Rattle.chains.proofs.spread.Spread.further.Given as goal
 
 abbrev pub invariant-loop-u : goal.invariant-loop-u
-invariant-loop-u g l = Spreading (g.D.Division.shape l.division) (g.D.Division.amount l.division) l.i l.self.seen l.self.from l.self.far l.left l.next l.depth
-
-abbrev pub decreases-loop-u : goal.decreases-loop-u
-decreases-loop-u g l = l.left
+invariant-loop-u g l = Spreading (g.D.Division.shape l.division) (g.D.Division.amount l.division) l.i l.self.seen l.self.from l.self.far l.u-iterator.left l.next l.depth

@@ -7,7 +7,7 @@ use Rattle.chains.proofs.spread.Spread.mark.Goals as goal
 pub returns : goal.returns
 returns c =
     let inv = c.loop-v.invariant in
-    let none : (v : ℕ) → In v c.loop-v.left → ⊥ = λ v h. in_none v (subst (λ (k : ℕ). In v k) c.in_default.ensures.0 h) in
+    let none : (v : ℕ) → In v c.loop-v.v-iterator.left → ⊥ = λ v h. in_none v (subst (λ (k : ℕ). In v k) c.in-None.ensures.steps.0 h) in
     record {
       members = subst (λ (k : ℕ). Joined k c.args.new c.union-self.result) inv.3 c.union-self.ensures;
       small = c.union-self.type_inv;

@@ -6,8 +6,5 @@ use Rattle.chains.proofs.spread.Spread.mark.Given as goal
 -- the seats that are no longer left are written
 abbrev pub invariant-loop-v : goal.invariant-loop-v
 invariant-loop-v l =
-    Within l.left l.new × Written l.new l.left l.u l.initial.self.from l.self.from
-    × Written l.new l.left l.depth l.initial.self.far l.self.far × (l.self.seen ≡ l.initial.self.seen)
-
-abbrev pub decreases-loop-v : goal.decreases-loop-v
-decreases-loop-v l = l.left
+    Within l.v-iterator.left l.new × Written l.new l.v-iterator.left l.u l.initial.self.from l.self.from
+    × Written l.new l.v-iterator.left l.depth l.initial.self.far l.self.far × (l.self.seen ≡ l.initial.self.seen)
