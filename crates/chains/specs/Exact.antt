@@ -1,5 +1,5 @@
 -- The seats that links lead to are exactly the seats in reach.
-use Rattle.std.specs.Prelude.{◌≡◌, ℕ, zero, suc, ◌+◌, ◌-◌, ◌<◌, ◌≤◌, List, length, ◌≢◌, slice_index, slice_index_or, refl}
+use Rattle.std.specs.Prelude.{◌≡◌, ℕ, zero, suc, ◌+◌, ◌-◌, ◌<◌, ◌≤◌, List, length, ◌≢◌, slice_index, refl}
 use Rattle.std.proofs.Common.{sym, ap, ◌∙◌, subst}
 use Rattle.std.proofs.Math.Logic.{⊎_elim}
 use Rattle.std.proofs.Math.Nat.{zero-mul}
@@ -16,7 +16,8 @@ use Rattle.items.specs.Fillings.{Shape, Fills, Link, Divisions, load_of, loads_o
 use Rattle.items.proofs.Units.{length_loads, loads_at, loaded, link_reaches}
 use Rattle.items.proofs.Between.{divisions_exchange}
 use Rattle.items.proofs.Weights.{weighed_move}
-use Rattle.chains.specs.Chains.{Distances}
+use Rattle.chains.specs.declared.spread.Spread.{Spread}
+use Rattle.chains.specs.Chains.{Distances, from_of, far_of}
 
 -- each base has a load for each seat
 pub divisions_width : (shape : Shape) (x : List ℕ) → Divisions shape x → length x ≡ shape.seats
@@ -33,15 +34,15 @@ module _ (shape : Shape) (f : ℕ → ℕ → ℕ) (fills : Fills shape f) (i : 
       let b = loads_at shape g s h in
       omega arith
 
-  module _ (seen : ℕ) (from far : List ℕ) (dist : Distances shape f i seen from far) where
-    reached : (fuel v : ℕ) → slice_index far v ≤ fuel → In v seen → (v ≢ i) → Reaches (Divisions shape) (loads_of shape f) i v
+  module _ (spread : Spread) (dist : Distances shape f i spread) where
+    reached : (fuel v : ℕ) → far_of spread v ≤ fuel → In v spread.seen → (v ≢ i) → Reaches (Divisions shape) (loads_of shape f) i v
     reached zero v le h ne = absurd (let c = (dist.came v h ne).2 in omega arith)
     reached (suc fuel) v le h ne = by_link (dist.came v h ne) (λ u. reached fuel u)
       where
-        by_link : In (slice_index from v) seen × Link shape f (slice_index from v) v × (slice_index far v ≡ slice_index far (slice_index from v) + 1)
-            → ((u : ℕ) → slice_index far u ≤ fuel → In u seen → (u ≢ i) → Reaches (Divisions shape) (loads_of shape f) i u) → Reaches (Divisions shape) (loads_of shape f) i v
+        by_link : In (from_of spread v) spread.seen × Link shape f (from_of spread v) v × (far_of spread v ≡ far_of spread (from_of spread v) + 1)
+            → ((u : ℕ) → far_of spread u ≤ fuel → In u spread.seen → (u ≢ i) → Reaches (Divisions shape) (loads_of shape f) i u) → Reaches (Divisions shape) (loads_of shape f) i v
         by_link (hu, link, e) again =
-            let u = slice_index_or from v 0 in
+            let u = from_of spread v in
             let last = link_reaches shape f u v fills link in
             ⊎_elim
             (λ (q : u ≡ i). subst (λ (k : ℕ). Reaches (Divisions shape) (loads_of shape f) k v) q last)
@@ -49,24 +50,24 @@ module _ (shape : Shape) (f : ℕ → ℕ → ℕ) (fills : Fills shape f) (i : 
             (cases_eq u i)
 
     -- a seat that links lead to is in reach
-    pub seen_reached : (v : ℕ) → In v seen → (v ≢ i) → Reaches (Divisions shape) (loads_of shape f) i v
-    seen_reached v = reached (slice_index far v) v (omega arith)
+    pub seen_reached : (v : ℕ) → In v spread.seen → (v ≢ i) → Reaches (Divisions shape) (loads_of shape f) i v
+    seen_reached v = reached (far_of spread v) v (omega arith)
 
     -- one for each seat that is not seen
     unseen : ℕ → ℕ
-    unseen s = 1 - digit s seen
+    unseen s = 1 - digit s spread.seen
 
     -- no link leads out of the seats seen
     unseen_falls : (u v : ℕ) → Link shape f u v → unseen v ≤ unseen u + 0
     unfolding unseen
-    unseen_falls u v link = ⊎_elim (λ h. let d = (dist.near u v h link).0 in omega arith) (λ z. omega arith) (in_or_nought u seen)
+    unseen_falls u v link = ⊎_elim (λ h. let d = (dist.near u v h link).0 in omega arith) (λ z. omega arith) (in_or_nought u spread.seen)
 
     -- a seat in reach is one that links lead to: else the seats seen would have to give up a unit
-    pub reached_seen : (j : ℕ) → Reaches (Divisions shape) (loads_of shape f) i j → In j seen
+    pub reached_seen : (j : ℕ) → Reaches (Divisions shape) (loads_of shape f) i j → In j spread.seen
     unfolding unseen
-    reached_seen j r = ⊎_elim (λ h. h) (λ out. absurd (gives_up (out_nought j seen out))) (in_or_not j seen)
+    reached_seen j r = ⊎_elim (λ h. h) (λ out. absurd (gives_up (out_nought j spread.seen out))) (in_or_not j spread.seen)
       where
-        gives_up : digit j seen ≡ 0 → ⊥
+        gives_up : digit j spread.seen ≡ 0 → ⊥
         gives_up z =
             let g = r.base.0 in
             let hi = loaded shape f i r.gives in

@@ -8,7 +8,7 @@ use items::Division;
 
 // Relays one unit along the chain from i to j, and answers the number of links.
 pub fn relay_back<D: Division>(division: &mut D, spread: &Spread, i: u8, j: u8) -> u32
-    requires distances { Distances (D.Division.shape division.old) (D.Division.amount division.old) i spread.now.seen spread.now.from spread.now.far }
+    requires distances { Distances (D.Division.shape division.old) (D.Division.amount division.old) i spread.now }
     requires reached { In j spread.now.seen }
     requires apart { j ≢ i }
     ensures passes { Passed (D.Division.shape division.old) (D.Division.amount division.old) (D.Division.amount division.new) i j result }
@@ -17,7 +17,7 @@ pub fn relay_back<D: Division>(division: &mut D, spread: &Spread, i: u8, j: u8) 
     let mut v = j;
     let mut count = 0;
     while v != i {
-        let u = spread.from[v as usize];
+        let u = spread.marks[v as usize].from;
         let _ = division.relay(u, v);
         v = u;
         count += 1;

@@ -1,5 +1,6 @@
-use Rattle.std.proofs.Common.{◌≡◌, get_or}
+use Rattle.std.proofs.Common.{◌≡◌}
 use Rattle.seats.specs.Sets.{In}
+use Rattle.chains.specs.Chains.{far_of}
 use Rattle.chains.proofs.Walked.{Walked}
 use Rattle.chains.proofs.back.relay_back.Given as goal
 
@@ -8,10 +9,10 @@ abbrev pub invariant-loop-v : goal.invariant-loop-v
 invariant-loop-v g l =
     let d = g.D.Division in
     In l.v l.spread.seen
-    × Walked (d.shape l.initial.division) (d.amount l.initial.division) (d.amount l.division) l.spread.far l.j l.v l.count
+    × Walked (d.shape l.initial.division) (d.amount l.initial.division) (d.amount l.division) (far_of l.spread) l.j l.v l.count
     × (d.shape l.division ≡ d.shape l.initial.division)
     × (d.most l.division ≡ d.most l.initial.division)
     × (d.sort l.division ≡ d.sort l.initial.division)
 
 abbrev pub decreases-loop-v : goal.decreases-loop-v
-decreases-loop-v g l = get_or l.spread.far l.v 0
+decreases-loop-v g l = far_of l.spread l.v

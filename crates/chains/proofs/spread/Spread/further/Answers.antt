@@ -7,6 +7,6 @@ loop-u-preserved g c =
     let store = c.args.division.now in
     let old = c.loop-u.self in
     let new = c.mark.new.self in
-    one_turn (d.shape store) (d.amount store) c.args.i old.seen new.seen old.from new.from old.far new.far
+    one_turn (d.shape store) (d.amount store) c.args.i old new
     c.loop-u.u-iterator.left c.next.new.self.left c.loop-u.next c.union-next.result c.args.depth c.in-Some.u c.links.result c.without-new.result
     c.loop-u.invariant c.in-Some.ensures.steps c.links.ensures c.without-new.ensures c.mark.ensures c.union-next.ensures

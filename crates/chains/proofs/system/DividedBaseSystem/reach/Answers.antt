@@ -36,7 +36,7 @@ returns g c =
     (λ h. ⊎_elim (λ z. absurd (in_none j z)) (λ e. e) ((c.with.ensures.members low j).0 h), λ e. (c.with.ensures.members low j).1 (inr e)) in (
       omega arith,
       λ j. (
-        λ h. let m = (c.without.ensures j).0 h in seen_reached (d.shape store) (d.amount store) (laws.fills store) i s.seen s.from s.far dist j m.0 (λ e. m.1 ((alone j).1 e)),
-        λ r. (c.without.ensures j).1 (reached_seen (d.shape store) (d.amount store) (laws.fills store) i s.seen s.from s.far dist j r, λ h. r.other (sym ((alone j).0 h))),
+        λ h. let m = (c.without.ensures j).0 h in seen_reached (d.shape store) (d.amount store) (laws.fills store) i s dist j m.0 (λ e. m.1 ((alone j).1 e)),
+        λ r. (c.without.ensures j).1 (reached_seen (d.shape store) (d.amount store) (laws.fills store) i s dist j r, λ h. r.other (sym ((alone j).0 h))),
       ),
     )

@@ -29,9 +29,8 @@ returns-then-not-has g c =
     let d = g.D.Division in
     let laws = g.met.D.Division in
     let store = c.args.self.now.division in
-    let s = c.from_seat-spread.result in
-    (
-      λ r. c.if-not-has.ensures (reached_seen (d.shape store) (d.amount store) (laws.fills store) c.args.i s.seen s.from s.far c.from_seat-spread.ensures c.args.j r),
+    let s = c.from_seat-spread.result in (
+      λ r. c.if-not-has.ensures (reached_seen (d.shape store) (d.amount store) (laws.fills store) c.args.i s c.from_seat-spread.ensures c.args.j r),
       c.at_seat.ensures ∙ refused_base (d.shape store) (d.amount store) c.args.i c.args.j c.seats.result c.kind-kind.result (d.sort store) c.seats.ensures c.kind-kind.ensures c.in_ok-pair_given.ensures,
       refl {a = c.args.self.now},
     )
@@ -45,11 +44,10 @@ returns g c =
     let s = c.from_seat-spread.result in
     let i = c.args.i in
     let j = c.args.j in
-    let reach = seen_reached (d.shape store) (d.amount store) (laws.fills store) i s.seen s.from s.far c.from_seat-spread.ensures j c.if-not-has.ensures
+    let reach = seen_reached (d.shape store) (d.amount store) (laws.fills store) i s c.from_seat-spread.ensures j c.if-not-has.ensures
     (λ e. c.in_ok-pair_given.ensures.2 (sym e)) in
     let passed = c.relay_back.ensures.passes in
-    let len = length_loads (d.shape store) (d.amount store) in
-    (
+    let len = length_loads (d.shape store) (d.amount store) in (
       reach,
       passed.some,
       (let short = passed.short in omega arith),
