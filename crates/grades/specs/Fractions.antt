@@ -1,6 +1,6 @@
 -- Gradings by fractions.
 use Rattle.std.specs.Prelude.{ℕ, ◌*◌, ◌≤◌}
-use Rattle.std.proofs.Common.{inl, inr, ⊎_elim, mul-le-mul_right, le_of_mul-le-mul_right, mul_right_comm, arith, ltb→lt, lt→ltb}
+use Rattle.std.proofs.Common.{inl, inr, ⊎_elim, ltb→lt, lt→ltb, mul-le-mul_right, le_of_mul-le-mul_right, arith}
 use Rattle.std.proofs.lemmas.Bool.{cases_lt}
 use Rattle.grades.specs.Grades.{Grades}
 use Rattle.grades.specs.Weights.{by_shares}
@@ -10,18 +10,18 @@ pub fractions_join : (u v x a b c : ℕ) → 1 ≤ c → u * c ≤ x * a → x *
 fractions_join u v x a b c some first second =
     let left : u * c * b ≤ x * a * b = mul-le-mul_right b first in
     let right : x * b * a ≤ v * c * a = mul-le-mul_right a second in
-    le_of_mul-le-mul_right {k = c} (omega (arith, left, right, mul_right_comm u b c, mul_right_comm x a b, mul_right_comm v a c)) some
+    le_of_mul-le-mul_right {k = c} (omega arith) some
 
 -- units divided by weights of 1 and more are graded by the fractions
 pub share_grades : (weight : ℕ → ℕ) → ((i : ℕ) → 1 ≤ weight i) → Grades (by_shares weight)
 share_grades weight some =
     record {
-      never_self = λ i u _ h. omega (arith, ltb→lt (u * weight i) (u * weight i) h);
-      one_way = λ i u j v _ _ h k. omega (arith, ltb→lt (v * weight i) (u * weight j) h, ltb→lt (u * weight j) (v * weight i) k);
+      never_self = λ i u _ h. omega (arith, ltb→lt);
+      one_way = λ i u j v _ _ h k. omega (arith, ltb→lt);
       between = λ i u j v k x _ _ _ h.
-          ⊎_elim (λ low. inl (lt→ltb (x * weight i) (u * weight k) low))
-          (λ first. ⊎_elim (λ low. inr (lt→ltb (v * weight k) (x * weight j) low))
-          (λ second. absurd (omega (arith, ltb→lt (v * weight i) (u * weight j) h, fractions_join u v x (weight i) (weight j) (weight k) (some k) first second)))
+          ⊎_elim (λ low. inl (lt→ltb _ _ low))
+          (λ first. ⊎_elim (λ low. inr (lt→ltb _ _ low))
+          (λ second. absurd (omega (arith, ltb→lt, fractions_join u v x (weight i) (weight j) (weight k) (some k) first second)))
           (cases_lt (v * weight k) (x * weight j))) (cases_lt (x * weight i) (u * weight k));
-      rises = λ i u v _ _ le h. omega (arith, ltb→lt (v * weight i) (u * weight i) h, mul-le-mul_right (weight i) le);
+      rises = λ i u v _ _ le h. omega (arith, ltb→lt, mul-le-mul_right (weight i) le);
     }

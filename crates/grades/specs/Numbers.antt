@@ -11,12 +11,11 @@ use Rattle.grades.specs.CapGrades.{cap_grade}
 pub number_grades : (grade : ℕ → ℕ → ℕ) → ((i u v : ℕ) → u ≤ v → grade i u ≤ grade i v) → Grades (by_number grade)
 number_grades grade climbs =
     record {
-      never_self = λ i u _ h. omega (arith, ltb→lt (grade i u) (grade i u) h);
-      one_way = λ i u j v _ _ h k. omega (arith, ltb→lt (grade j v) (grade i u) h, ltb→lt (grade i u) (grade j v) k);
+      never_self = λ i u _ h. omega (arith, ltb→lt);
+      one_way = λ i u j v _ _ h k. omega (arith, ltb→lt);
       between = λ i u j v k w _ _ _ h.
-          ⊎_elim (λ low. inl (lt→ltb (grade k w) (grade i u) low))
-          (λ high. inr (lt→ltb (grade j v) (grade k w) (omega (arith, ltb→lt (grade j v) (grade i u) h, high)))) (cases_lt (grade k w) (grade i u));
-      rises = λ i u v _ _ le h. omega (arith, ltb→lt (grade i v) (grade i u) h, climbs i u v le);
+          ⊎_elim (λ low. inl (lt→ltb _ _ low)) (λ high. inr (lt→ltb _ _ (omega (arith, ltb→lt)))) (cases_lt (grade k w) (grade i u));
+      rises = λ i u v _ _ le h. omega (arith, ltb→lt, climbs i u v le);
     }
 
 -- whole loads grade by the number of the unit

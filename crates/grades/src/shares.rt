@@ -5,14 +5,12 @@ ghost use Rattle.grades.specs.Fractions.{share_grades};
 
 use crate::grading::Grading;
 use faults::{Fault, Kind, Reason};
+use limits::MOST_WEIGHT;
 
 // The layer that refuses.
 const KIND: Kind = Kind::Shares;
 
-// The largest weight.
-const MOST_WEIGHT: u32 = 100;
-
-// One weight, from 1 to 100, for each seat that there can be.
+// One weight, from 1 to 100, for each seat that there can be: an array of all 64, since no call may allocate.
 #[derive(Drop)]
 pub struct Shares {
     seats: u8,
@@ -40,10 +38,11 @@ impl Shares {
         if i >= self.seats || i >= 64 {
             return Err(Fault::at_seat(Reason::NoSuchSeat, i, KIND));
         }
-        if w == 0 || w > MOST_WEIGHT {
+        if !(1..=MOST_WEIGHT).contains(&w) {
             return Err(Fault::nowhere(Reason::BeyondLimits, KIND));
         }
-        self.weights[i as usize] = w;
+        // by its index: of what `get_mut` of an array leaves, a proof learns the length and no weight
+        self.weights[usize::from(i)] = w;
         Ok(())
     }
 
@@ -51,7 +50,7 @@ impl Shares {
     fn weight(&self, i: u8) -> u32
         ensures { result ≡ weight_of self.now.weights i }
     {
-        if i < 64 { self.weights[i as usize] } else { 1 }
+        self.weights.get(usize::from(i)).copied().unwrap_or(1)
     }
 }
 

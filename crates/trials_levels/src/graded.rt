@@ -1,6 +1,6 @@
 // Gradings.
 use faults::{Fault, Kind, Reason};
-use grades::{CapGrading, FavourGrading, Grading, Shares};
+use grades::{Aim, CapGrading, FavourGrading, Grading, Shares};
 
 #[test]
 fn limits_of_weights(rt: HostRuntime) {
@@ -36,7 +36,7 @@ fn around_a_range_and_a_set(rt: HostRuntime) {
     assert!(rt; !cap.is_above(0, 1, 4, 3));
     let most = FavourGrading {
         set: 0b10,
-        most: true,
+        aim: Aim::Most,
     };
     assert!(rt; most.is_above(0, 1, 1, 9));
     assert!(rt; !most.is_above(1, 9, 0, 1));
