@@ -11,20 +11,20 @@ use std::io;
 use std::time::Instant;
 
 fn main(rt: HostRuntime) -> anyhow::Result<()> {
-    let mut star = Vec::new(rt.alloc());
-    let mut row = Vec::new(rt.alloc());
-    for t in 0..256u32 {
-        star.push(Leg {
-            a: (t % 8) as u8,
-            b: (8 + t % 56) as u8,
+    let star = (0..=u8::MAX)
+        .map(|t| Leg {
+            a: t % 8,
+            b: 8 + t % 56,
             passages: 1_000,
-        })?;
-        row.push(Leg {
-            a: (t % 63) as u8,
-            b: (t % 63 + 1) as u8,
+        })
+        .collect(rt.alloc())?;
+    let row = (0..=u8::MAX)
+        .map(|t| Leg {
+            a: t % 63,
+            b: t % 63 + 1,
             passages: 1_000,
-        })?;
-    }
+        })
+        .collect(rt.alloc())?;
     pace(&rt, "eight stations have all", star)?;
     pace(&rt, "stations in a row", row)
 }
