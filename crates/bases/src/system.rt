@@ -3,6 +3,7 @@ ghost use Rattle.std.specs.Prelude.{◌≡◌, ℕ, ◌<◌, ◌≤◌, List, le
 ghost use Rattle.faults.specs.declared.Fault.{Fault};
 ghost use Rattle.faults.specs.declared.Kind.{Kind};
 ghost use Rattle.bases.specs.Exchange.{moved, Exchange, Same};
+ghost use Rattle.bases.specs.Family.{Family};
 ghost use Rattle.bases.specs.Says.{Stands, LoadSays, ReachSays, ShiftSays, refusal};
 
 use faults::{Fault, Kind};
@@ -66,4 +67,7 @@ pub trait BaseSystem {
 
     // and leaves the bases, the seats, the ceiling and the kind as they are
     ghost keeps: { (a b : Self) (i j count : ℕ) → shifted a i j count b → Same (bases a) (bases b) × (seats b ≡ seats a) × (top b ≡ top a) × (layer b ≡ layer a) };
+
+    // so the bases are a family, of which every promise about bases speaks
+    ghost family: { (s : Self) → Family (bases s) (seats s) (top s) } = { λ s. record { exchange = exchange s; width = width s; few = (few s).1; high = high s; low = (stands s).1 } };
 }

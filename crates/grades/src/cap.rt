@@ -3,6 +3,7 @@ ghost use Rattle.grades.specs.CapGrades.{cap_grade};
 ghost use Rattle.grades.specs.Numbers.{cap_climbs};
 
 use crate::graded::{Grade, Graded};
+use crate::grading::WorkUnit;
 
 // The units of `seat` up to `lo` are graded lowest, those beyond `lo` and `hi` highest, and all other units between.
 #[derive(Clone, Copy)]
@@ -17,12 +18,12 @@ impl Graded for CapGrading {
 
     ghost climbs = { λ g. cap_climbs g.seat g.lo g.hi };
 
-    fn grade(&self, i: u8, u: u32) -> Grade {
-        if i != self.seat {
+    fn grade(&self, a: WorkUnit) -> Grade {
+        if a.seat != self.seat {
             Grade::Middle
-        } else if u <= self.lo {
+        } else if a.number <= self.lo {
             Grade::Low
-        } else if u <= self.hi {
+        } else if a.number <= self.hi {
             Grade::Middle
         } else {
             Grade::High

@@ -3,6 +3,7 @@ ghost use Rattle.grades.specs.FavourGrades.{favour_grade, is_most};
 ghost use Rattle.std.proofs.Common.{arith};
 
 use crate::graded::{Grade, Graded};
+use crate::grading::WorkUnit;
 
 // Whether the seats of a set are to have as much as they can, or as little.
 #[derive(Clone, Copy, PartialEq, Eq, Debug)]
@@ -23,8 +24,8 @@ impl Graded for FavourGrading {
 
     ghost climbs = { λ g i u v le. omega arith };
 
-    fn grade(&self, i: u8, _u: u32) -> Grade {
-        match (self.aim, seats::has(self.set, i)) {
+    fn grade(&self, a: WorkUnit) -> Grade {
+        match (self.aim, seats::has(self.set, a.seat)) {
             (Aim::Most, true) | (Aim::Least, false) => Grade::Low,
             (Aim::Most, false) | (Aim::Least, true) => Grade::Middle,
         }

@@ -3,7 +3,7 @@ ghost use Rattle.std.specs.Prelude.{◌≡◌, ◌≤◌, ℕ};
 ghost use Rattle.grades.specs.ByNumber.{by_number, number_of_grade};
 ghost use Rattle.grades.specs.Numbers.{number_grades};
 
-use crate::grading::Grading;
+use crate::grading::{Grading, WorkUnit};
 
 // From the lowest to the highest; a grading with two grades has the lower two.
 #[derive(Clone, Copy, PartialEq, Eq, PartialOrd, Ord, Debug)]
@@ -18,8 +18,8 @@ pub trait Graded {
     // `grade g i u`: the number of the grade of unit u of seat i
     ghost grade: { Self → ℕ → ℕ → ℕ };
 
-    fn grade(&self, i: u8, u: u32) -> Grade
-        ensures { number_of_grade result ≡ grade self.now i u };
+    fn grade(&self, a: WorkUnit) -> Grade
+        ensures { number_of_grade result ≡ grade self.now a.seat a.number };
 
     ghost climbs: { (g : Self) (i u v : ℕ) → u ≤ v → grade g i u ≤ grade g i v };
 }
@@ -30,7 +30,7 @@ impl<G: Graded> Grading for G {
 
     ghost order = { λ g. number_grades (G.grade g) (G.climbs g) };
 
-    fn is_above(&self, i: u8, u: u32, j: u8, v: u32) -> bool {
-        self.grade(i, u) > self.grade(j, v)
+    fn is_above(&self, a: WorkUnit, b: WorkUnit) -> bool {
+        self.grade(a) > self.grade(b)
     }
 }

@@ -11,6 +11,6 @@ pub mod whole;
 pub use cap::CapGrading;
 pub use favour::{Aim, FavourGrading};
 pub use graded::{Grade, Graded};
-pub use grading::Grading;
+pub use grading::{Grading, WorkUnit};
 pub use shares::Shares;
 pub use whole::Whole;

@@ -3,7 +3,7 @@ ghost use Rattle.std.specs.Prelude.{◌≡◌, replicate, MatchResult, slice_set
 ghost use Rattle.grades.specs.Weights.{Weights, weight_of, by_shares, weigh_answer};
 ghost use Rattle.grades.specs.Fractions.{share_grades};
 
-use crate::grading::Grading;
+use crate::grading::{Grading, WorkUnit};
 use faults::{Fault, Kind, Reason};
 use limits::MOST_WEIGHT;
 
@@ -59,8 +59,9 @@ impl Grading for Shares {
 
     ghost order = { λ g. share_grades (weight_of g.weights) (λ i. (g.within i).0) };
 
-    fn is_above(&self, i: u8, u: u32, j: u8, v: u32) -> bool {
-        // u / weight of i > v / weight of j
-        u64::from(u) * u64::from(self.weight(j)) > u64::from(v) * u64::from(self.weight(i))
+    fn is_above(&self, a: WorkUnit, b: WorkUnit) -> bool {
+        // a's number / weight of its seat > b's number / weight of its seat
+        u64::from(a.number) * u64::from(self.weight(b.seat))
+            > u64::from(b.number) * u64::from(self.weight(a.seat))
     }
 }

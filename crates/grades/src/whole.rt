@@ -2,7 +2,7 @@
 ghost use Rattle.grades.specs.Grades.{whole};
 ghost use Rattle.grades.specs.Numbers.{whole_grades};
 
-use crate::grading::Grading;
+use crate::grading::{Grading, WorkUnit};
 
 // The later unit is above, whichever seats have the two.
 #[derive(Clone, Copy)]
@@ -13,7 +13,7 @@ impl Grading for Whole {
 
     ghost order = { λ g. whole_grades };
 
-    fn is_above(&self, _i: u8, u: u32, _j: u8, v: u32) -> bool {
-        u > v
+    fn is_above(&self, a: WorkUnit, b: WorkUnit) -> bool {
+        a.number > b.number
     }
 }

@@ -4,6 +4,7 @@ ghost use Rattle.seats.specs.Sets.{In};
 ghost use Rattle.steps.specs.Chosen.{Foremost, better_donor};
 
 use crate::foremost::foremost;
+use crate::units::last_unit;
 use bases::{BaseSystem, standing_load};
 use grades::Grading;
 
@@ -14,6 +15,6 @@ pub fn best_donor<S: BaseSystem, G: Grading>(s: &S, grading: &G, seats: u64) -> 
     foremost(
         seats,
         |i| standing_load(s, i) > 0,
-        |i, best| grading.is_above(i, standing_load(s, i), best, standing_load(s, best)),
+        |i, best| grading.is_above(last_unit(s, i), last_unit(s, best)),
     )
 }

@@ -2,10 +2,24 @@
 ghost use Rattle.std.specs.Prelude.{◌≡◌, ◌+◌, slice_index};
 
 use bases::{BaseSystem, standing_load};
+use grades::WorkUnit;
 
-// The number of the unit that seat j would get next.
-pub fn next_unit<S: BaseSystem>(s: &S, j: u8) -> u32
-    ensures { result ≡ slice_index (S.BaseSystem.loads s.now) j + 1 }
+// The last unit that seat i has.
+pub fn last_unit<S: BaseSystem>(s: &S, i: u8) -> WorkUnit
+    ensures { result ≡ record { seat = i; number = slice_index (S.BaseSystem.loads s.now) i } }
 {
-    standing_load(s, j) + 1
+    WorkUnit {
+        seat: i,
+        number: standing_load(s, i),
+    }
+}
+
+// The unit that seat j would get next.
+pub fn next_unit<S: BaseSystem>(s: &S, j: u8) -> WorkUnit
+    ensures { result ≡ record { seat = j; number = slice_index (S.BaseSystem.loads s.now) j + 1 } }
+{
+    WorkUnit {
+        seat: j,
+        number: standing_load(s, j) + 1,
+    }
 }

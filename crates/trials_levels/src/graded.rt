@@ -1,6 +1,10 @@
 // Gradings.
 use faults::{Fault, Kind, Reason};
-use grades::{Aim, CapGrading, FavourGrading, Grading, Shares};
+use grades::{Aim, CapGrading, FavourGrading, Grading, Shares, WorkUnit};
+
+fn unit(seat: u8, number: u32) -> WorkUnit {
+    WorkUnit { seat, number }
+}
 
 #[test]
 fn limits_of_weights(rt: HostRuntime) {
@@ -19,8 +23,8 @@ fn limits_of_weights(rt: HostRuntime) {
     );
     assert_eq!(rt; shares.weigh(2, 1), Ok(()));
     assert_eq!(rt; shares.weigh(2, 100), Ok(()));
-    assert!(rt; shares.is_above(0, 1, 2, 99));
-    assert!(rt; !shares.is_above(0, 1, 2, 100));
+    assert!(rt; shares.is_above(unit(0, 1), unit(2, 99)));
+    assert!(rt; !shares.is_above(unit(0, 1), unit(2, 100)));
 }
 
 #[test]
@@ -30,14 +34,14 @@ fn around_a_range_and_a_set(rt: HostRuntime) {
         lo: 2,
         hi: 5,
     };
-    assert!(rt; cap.is_above(4, 6, 0, 1));
-    assert!(rt; !cap.is_above(4, 5, 0, 1));
-    assert!(rt; cap.is_above(0, 1, 4, 2));
-    assert!(rt; !cap.is_above(0, 1, 4, 3));
+    assert!(rt; cap.is_above(unit(4, 6), unit(0, 1)));
+    assert!(rt; !cap.is_above(unit(4, 5), unit(0, 1)));
+    assert!(rt; cap.is_above(unit(0, 1), unit(4, 2)));
+    assert!(rt; !cap.is_above(unit(0, 1), unit(4, 3)));
     let most = FavourGrading {
         set: 0b10,
         aim: Aim::Most,
     };
-    assert!(rt; most.is_above(0, 1, 1, 9));
-    assert!(rt; !most.is_above(1, 9, 0, 1));
+    assert!(rt; most.is_above(unit(0, 1), unit(1, 9)));
+    assert!(rt; !most.is_above(unit(1, 9), unit(0, 1)));
 }
