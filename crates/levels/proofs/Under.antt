@@ -1,6 +1,7 @@
 -- A levelling under way.
-use Rattle.std.proofs.Common.{◌≡◌, ℕ, ◌+◌, ◌*◌, ◌≤◌, Bool, List, length, get_or, Some, Ok, sym, ap, subst, add-one, arith}
-use Rattle.bases.specs.Exchange.{Exchange, Same, moved}
+use Rattle.std.proofs.Common.{◌≡◌, ℕ, ◌+◌, ◌*◌, ◌≤◌, Bool, List, Some, Ok, sym, ap, subst, add-one, arith}
+use Rattle.bases.specs.Exchange.{Same, moved}
+use Rattle.bases.specs.Family.{Family}
 use Rattle.bases.specs.Says.{Stands}
 use Rattle.grades.specs.Grades.{Grades, ByWhole}
 use Rattle.optima.specs.Steps.{LevelBy}
@@ -20,8 +21,7 @@ pub record Under {S : Type 0} (bases : S → List ℕ → Type 0) (loads : S →
   pub squared : ByWhole above → squares (loads b) + 2 * made ≤ squares (loads a)
 
 module _ {S : Type 0} (seats : S → ℕ) (bases : S → List ℕ → Type 0) (loads : S → List ℕ) (top : S → ℕ) (shifted : S → ℕ → ℕ → ℕ → S → Type 0)
-    (stands : (s : S) → Stands (bases s) (loads s) (top s)) (few : (s : S) → seats s ≤ 64) (width : (s : S) (x : List ℕ) → bases s x → length x ≡ seats s) (high : (s : S) (x : List ℕ) → bases s x → (i : ℕ) → get_or x i 0 ≤ top s)
-    (exchange : (s : S) → Exchange (bases s)) (moves : (a b : S) (i j count : ℕ) → shifted a i j count b → loads b ≡ moved (loads a) i j)
+    (stands : (s : S) → Stands (bases s) (loads s) (top s)) (family : (s : S) → Family (bases s) (seats s) (top s)) (moves : (a b : S) (i j count : ℕ) → shifted a i j count b → loads b ≡ moved (loads a) i j)
     (keeps : (a b : S) (i j count : ℕ) → shifted a i j count b → Same (bases a) (bases b))
     (above : ℕ → ℕ → ℕ → ℕ → Bool) (grades : Grades above) (a : S) where
   -- at first nothing is done
@@ -35,7 +35,7 @@ module _ {S : Type 0} (seats : S → ℕ) (bases : S → List ℕ → Type 0) (l
     steps = subst (λ (m : ℕ). Levelled bases loads shifted above a m c) (sym (add-one made)) (further i j count under.steps chosen shift);
     same = λ x. (λ h. (keeps b c i j count shift x).0 ((under.same x).0 h), λ h. (under.same x).1 ((keeps b c i j count shift x).1 h));
     squared = λ whole.
-        (let fall = squares_fall (bases b) (exchange b) (seats b) (width b) (few b) (top b) (stands b).1 (high b) above grades whole (loads b) (stands b).0 i j chosen.receiver.has in
+        (let fall = squares_fall (family b) above grades whole (loads b) (stands b).0 i j chosen.receiver.has in
         let e = ap squares (moves b c i j count shift) in
         let so_far = under.squared whole in
         omega arith);
@@ -45,7 +45,7 @@ module _ {S : Type 0} (seats : S → ℕ) (bases : S → List ℕ → Type 0) (l
     -- what is promised where no step is left
     pub promised_level : (budget : ℕ) → LevelBy (bases b) above (loads b) → Promised (bases a) above budget (loads a) (loads b) (Ok (Some made))
     promised_level budget level = record {
-      kindest = λ _ j v unit y open-to. level_units (bases b) (exchange b) (seats b) (width b) (few b) (top b) (stands b).1 (high b) above grades (loads b) (stands b).0 level j v unit y ((under.same y).0 open-to);
-      heaviest_least = λ _ whole k y open-to. level_heaviest (bases b) (exchange b) (seats b) (width b) (few b) (top b) (stands b).1 (high b) above grades whole (loads b) (stands b).0 level k y ((under.same y).0 open-to);
+      kindest = λ _ j v unit y open-to. level_units (family b) above grades (loads b) (stands b).0 level j v unit y ((under.same y).0 open-to);
+      heaviest_least = λ _ whole k y open-to. level_heaviest (family b) above grades whole (loads b) (stands b).0 level k y ((under.same y).0 open-to);
       squares_fall = under.squared;
     }

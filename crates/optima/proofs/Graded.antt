@@ -1,6 +1,7 @@
 -- A base that is level by a grading has, above each unit, the fewest units of all bases.
 use Rattle.std.proofs.Common.{◌≡◌, ℕ, ◌+◌, ◌<◌, ◌≤◌, Bool, true, false, cond, T, List, length, get_or, ⊎_elim, arith}
-use Rattle.bases.specs.Exchange.{Exchange, Reaches}
+use Rattle.bases.specs.Exchange.{Reaches}
+use Rattle.bases.specs.Family.{Family}
 use Rattle.bases.proofs.Moves.{moved_to, seat_of}
 use Rattle.grades.specs.Grades.{UnitOf, Grades}
 use Rattle.optima.specs.Steps.{LevelBy}
@@ -34,12 +35,11 @@ module _ (B : List ℕ → Type 0) (n : ℕ) (width : (x : List ℕ) → B x →
       let s = r.takes in
       record { seat = omega arith; first = omega arith; last = omega arith }
 
-module _ (B : List ℕ → Type 0) (ex : Exchange B) (n : ℕ) (width : (x : List ℕ) → B x → length x ≡ n) (few : n ≤ 64)
-    (top : ℕ) (low : top ≤ 999999) (high : (x : List ℕ) → B x → (i : ℕ) → get_or x i 0 ≤ top)
+module _ {B : List ℕ → Type 0} {n top : ℕ} (family : Family B n top)
     (above : ℕ → ℕ → ℕ → ℕ → Bool) (grades : Grades above) where
   -- of a level base and any base, the level one has at most as many units above each unit
   pub level_units : (x : List ℕ) → B x → LevelBy B above x → (j v : ℕ) → UnitOf j v → (y : List ℕ) → B y → units_above above x j v ≤ units_above above y j v
-  level_units x hx level j v t = least_cost B ex n width top high (λ i u. cond (above i u j v) 1 0) climbs x hx no_fewer
+  level_units x hx level j v t = least_cost B family.exchange n family.width top family.high (λ i u. cond (above i u j v) 1 0) climbs x hx no_fewer
     where
       -- what is above t has all later units of its seat above t
       climbs : (i u w : ℕ) → i < n → 1 ≤ u → u ≤ w → w ≤ top → cond (above i u j v) 1 0 ≤ cond (above i w j v) 1 0
@@ -51,7 +51,7 @@ module _ (B : List ℕ → Type 0) (ex : Exchange B) (n : ℕ) (width : (x : Lis
       -- what is above t goes nowhere else than above t
       no_fewer : (i k : ℕ) → Reaches B x i k → cond (above i (get_or x i 0) j v) 1 0 ≤ cond (above k (get_or x k 0 + 1) j v) 1 0
       no_fewer i k r =
-          let a = last_unit B n width few top low high x hx i r.gives in
-          let b = next_unit B n width few top low high x hx i k r in
+          let a = last_unit B n family.width family.few top family.low family.high x hx i r.gives in
+          let b = next_unit B n family.width family.few top family.low family.high x hx i k r in
           flag_le (above i (get_or x i 0) j v) (above k (get_or x k 0 + 1) j v)
           (λ p. ⊎_elim (λ q. absurd (level i k (record { reach = r; graded = q }))) (λ q. q) (grades.between i (get_or x i 0) j v k (get_or x k 0 + 1) a t b p))

@@ -6,7 +6,7 @@ use Rattle.std.proofs.lemmas.List.{take_all}
 use Rattle.std.proofs.lemmas.List.Sums.{sum_by-cons, sum_by_more}
 use Rattle.std.proofs.lemmas.Bool.{cases_lt, cond_both, cond-true, cond-false, leb-true, leb-false, lt-ltb, le-ltb}
 use Rattle.bases.specs.Sums.{sum_to}
-use Rattle.bases.specs.Exchange.{Exchange}
+use Rattle.bases.specs.Family.{Family}
 use Rattle.bases.proofs.Sums.{sum_same}
 use Rattle.bases.proofs.Toward.{one_total}
 use Rattle.grades.specs.Grades.{UnitOf, Grades, ByWhole}
@@ -160,44 +160,42 @@ count_over w (suc m) p by_number =
     (λ under. let none = cond-false {A = ℕ} (p (suc m)) 1 0 (last ∙ le-ltb w (suc m) under) in omega arith)
     (cases_lt w (suc m))
 
-module _ (B : List ℕ → Type 0) (ex : Exchange B) (n : ℕ) (width : (x : List ℕ) → B x → length x ≡ n) (few : n ≤ 64)
-    (top : ℕ) (low : top ≤ 999999) (high : (x : List ℕ) → B x → (i : ℕ) → get_or x i 0 ≤ top)
+module _ {B : List ℕ → Type 0} {n top : ℕ} (family : Family B n top)
     (above : ℕ → ℕ → ℕ → ℕ → Bool) (grades : Grades above) (by_whole : ByWhole above) where
   -- by whole loads, the units of a base above unit w of seat 0 are those above load w
   above_over : (w : ℕ) → UnitOf 0 w → (x : List ℕ) → B x → units_above above x 0 w ≡ units_over w x
   above_over w t x hx =
-      let l = width x hx in
+      let l = family.width x hx in
       sum_same (length x) (λ i. sum_to (get_or x i 0) (λ u. cond (above i (suc u) 0 w) 1 0)) (λ i. get_or x i 0 - w)
       (λ i h. count_over w (get_or x i 0) (λ u. above i u 0 w)
-      (λ u first last. by_whole i u 0 w (let b = high x hx i in record { seat = omega arith; first = first; last = omega arith }) t))
+      (λ u first last. by_whole i u 0 w (let b = family.high x hx i in record { seat = omega arith; first = first; last = omega arith }) t))
 
   module _ (x : List ℕ) (hx : B x) (level : LevelBy B above x) (y : List ℕ) (hy : B y) where
     -- a level base has at most as many units above each load as any base
     over_le : (w : ℕ) → w ≤ top → units_over w x ≤ units_over w y
-    over_le zero h = let a = over_none x in let b = over_none y in let s = one_total B ex n width x y hx hy in omega arith
+    over_le zero h = let a = over_none x in let b = over_none y in let s = one_total B family.exchange n family.width x y hx hy in omega arith
     over_le (suc w) h =
         let t : UnitOf 0 (suc w) = record { seat = omega arith; first = omega arith; last = omega arith } in
         let a = above_over (suc w) t x hx in
         let b = above_over (suc w) t y hy in
-        let le = level_units B ex n width few top low high above grades x hx level 0 (suc w) t y hy in
+        let le = level_units family above grades x hx level 0 (suc w) t y hy in
         omega arith
 
     -- so its k heaviest loads are at most those of any base
     at_most : (k : ℕ) → heaviest k x ≤ heaviest k y
     at_most zero = omega arith
     at_most (suc k) =
-        let lx = width x hx in
-        let ly = width y hy in
+        let lx = family.width x hx in
+        let ly = family.width y hy in
         ⊎_elim
-        (λ inside. let r = heaviest_is (suc k) top y (high y hy) (omega arith) (omega arith) in
+        (λ inside. let r = heaviest_is (suc k) top y (family.high y hy) (omega arith) (omega arith) in
         let le = heaviest_le (suc k) r.0 x in let fewer = over_le r.0 r.1 in let is = r.2 in omega arith)
         (λ past. let a = heaviest_all (suc k) x (omega arith) in let b = heaviest_all (suc k) y (omega arith) in
-        let s = one_total B ex n width x y hx hy in omega arith)
+        let s = one_total B family.exchange n family.width x y hx hy in omega arith)
         (cases_lt k n)
 
-module _ (B : List ℕ → Type 0) (ex : Exchange B) (n : ℕ) (width : (x : List ℕ) → B x → length x ≡ n) (few : n ≤ 64)
-    (top : ℕ) (low : top ≤ 999999) (high : (x : List ℕ) → B x → (i : ℕ) → get_or x i 0 ≤ top)
+module _ {B : List ℕ → Type 0} {n top : ℕ} (family : Family B n top)
     (above : ℕ → ℕ → ℕ → ℕ → Bool) (grades : Grades above) where
   -- of a base that is level by whole loads and any base, the level one's k heaviest loads are at most the other's
   pub level_heaviest : ByWhole above → (x : List ℕ) → B x → LevelBy B above x → (k : ℕ) (y : List ℕ) → B y → heaviest k x ≤ heaviest k y
-  level_heaviest by_whole x hx level k y hy = at_most B ex n width few top low high above grades by_whole x hx level y hy k
+  level_heaviest by_whole x hx level k y hy = at_most family above grades by_whole x hx level y hy k

@@ -1,6 +1,7 @@
 -- By whole loads, each step lowers the sum of the squared loads.
 use Rattle.std.proofs.Common.{◌≡◌, ℕ, ◌+◌, ◌-◌, ◌*◌, ◌<◌, ◌≤◌, Bool, T, List, length, get_or, ap, subst, add-mul, one-mul, mul-one, mul-add, arith, ltb→lt}
-use Rattle.bases.specs.Exchange.{Exchange, moved}
+use Rattle.bases.specs.Exchange.{moved}
+use Rattle.bases.specs.Family.{Family}
 use Rattle.grades.specs.Grades.{Grades, ByWhole}
 use Rattle.optima.specs.Steps.{Step}
 use Rattle.optima.specs.Costs.{squares}
@@ -25,14 +26,13 @@ squares_moved x i j takes other wide =
     let b = square_next (get_or x j 0) (get_or x j 0 + 1) (omega arith) in
     omega arith
 
-module _ (B : List ℕ → Type 0) (ex : Exchange B) (n : ℕ) (width : (x : List ℕ) → B x → length x ≡ n) (few : n ≤ 64)
-    (top : ℕ) (low : top ≤ 999999) (high : (x : List ℕ) → B x → (i : ℕ) → get_or x i 0 ≤ top)
+module _ {B : List ℕ → Type 0} {n top : ℕ} (family : Family B n top)
     (above : ℕ → ℕ → ℕ → ℕ → Bool) (grades : Grades above) where
   -- by whole loads, a step goes from a load to one that is lower by two at least
   pub step_wide : ByWhole above → (x : List ℕ) → B x → (i j : ℕ) → Step B above x i j → get_or x j 0 + 1 < get_or x i 0
   step_wide by_whole x hx i j s =
-      let a = last_unit B n width few top low high x hx i s.reach.gives in
-      let b = next_unit B n width few top low high x hx i j s.reach in
+      let a = last_unit B n family.width family.few top family.low family.high x hx i s.reach.gives in
+      let b = next_unit B n family.width family.few top family.low family.high x hx i j s.reach in
       ltb→lt (get_or x j 0 + 1) (get_or x i 0) (subst T (by_whole i (get_or x i 0) j (get_or x j 0 + 1) a b) s.graded)
 
   -- and so it lowers the sum of the squares by two at least

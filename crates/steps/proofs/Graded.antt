@@ -1,8 +1,9 @@
 -- Donors and receivers by their grades, and which donors need not be asked.
-use Rattle.std.proofs.Common.{◌≡◌, ℕ, ◌+◌, ◌^◌, ◌<◌, ◌≤◌, Bool, true, false, ltb, T, ◌⊎◌, List, length, get_or, Some, None, Option, sym, refl, subst, inl, inr, ⊎_elim, arith, MatchOption}
+use Rattle.std.proofs.Common.{◌≡◌, ℕ, ◌+◌, ◌^◌, ◌<◌, Bool, true, false, ltb, T, ◌⊎◌, List, get_or, Some, None, Option, sym, refl, subst, inl, inr, ⊎_elim, arith, MatchOption}
 use lib.Count.{ones}
 use Rattle.std.proofs.lemmas.Bool.{cases_eq, lt-ltb, ltb-true}
-use Rattle.bases.specs.Exchange.{Exchange, Reaches}
+use Rattle.bases.specs.Exchange.{Reaches}
+use Rattle.bases.specs.Family.{Family}
 use Rattle.bases.proofs.Toward.{reach_joins}
 use Rattle.grades.specs.Grades.{UnitOf, Grades}
 use Rattle.optima.specs.Steps.{Step}
@@ -50,16 +51,15 @@ receivers B above x i reach exact (Some j) first = record {
   none_before = λ l step. first.none_before l ((exact l).1 step.reach, is_true _ step.graded);
 }
 
-module _ (B : List ℕ → Type 0) (ex : Exchange B) (n : ℕ) (width : (x : List ℕ) → B x → length x ≡ n) (few : n ≤ 64)
-    (top : ℕ) (low : top ≤ 999999) (high : (x : List ℕ) → B x → (i : ℕ) → get_or x i 0 ≤ top)
+module _ {B : List ℕ → Type 0} {n top : ℕ} (family : Family B n top)
     (above : ℕ → ℕ → ℕ → ℕ → Bool) (grades : Grades above) (x : List ℕ) (hx : B x) where
   -- the last unit of a seat that has one
   last : (i : ℕ) → 0 < get_or x i 0 → UnitOf i (get_or x i 0)
-  last = last_unit B n width few top low high x hx
+  last = last_unit B n family.width family.few top family.low family.high x hx
 
   -- the next unit of a seat that can take one
   next : (i j : ℕ) → Reaches B x i j → UnitOf j (get_or x j 0 + 1)
-  next = next_unit B n width few top low high x hx
+  next = next_unit B n family.width family.few top family.low family.high x hx
 
   -- the order of donors
   donors_one_way : (a b : ℕ) → 0 < get_or x a 0 → 0 < get_or x b 0 → T (better_donor above x a b) → T (better_donor above x b a) → ⊥
@@ -109,7 +109,7 @@ module _ (B : List ℕ → Type 0) (ex : Exchange B) (n : ℕ) (width : (x : Lis
         on : (i ≡ j → ⊥) → ⊥
         on ne =
             ⊎_elim not-above
-            (λ up. none j (record { reach = reach_joins B ex n width x hx i k j ne ik s.reach; graded = up }))
+            (λ up. none j (record { reach = reach_joins B family.exchange n family.width x hx i k j ne ik s.reach; graded = up }))
             (grades.between k (get_or x k 0) j (get_or x j 0 + 1) i (get_or x i 0) units coming (last i has) s.graded)
 
   -- of the seats `left`, outside of which no seat gives a step, i is the foremost donor

@@ -30,7 +30,7 @@ returns-in-Some-best_receiver g c =
     let x = b.loads s in
     let above = g.G.Grading.above c.args.grading.now in
     let grades = g.met.G.Grading.order c.args.grading.now in
-    chosen_step (b.bases s) (laws.exchange s) (b.seats s) (laws.width s) (laws.few s).1 (b.top s) (laws.stands s).1 (laws.high s) above grades x (laws.stands s).0 c.loop-i.left c.in-Some.i c.loop-i.invariant.1 c.in-Some.ensures c.in-Some-best_receiver.j c.in-Some-best_receiver.ensures
+    chosen_step (laws.family s) above grades x (laws.stands s).0 c.loop-i.left c.in-Some.i c.loop-i.invariant.1 c.in-Some.ensures c.in-Some-best_receiver.j c.in-Some-best_receiver.ensures
 
 pub loop-i-smaller : goal.loop-i-smaller
 loop-i-smaller g c =
@@ -43,7 +43,7 @@ loop-i-smaller g c =
     let i = c.in-Some.i in
     let donor = c.in-Some.ensures in
     let low : c.in-Some.i < 64 = (let seat = seat_of x i donor.has.1 in let w = laws.width s x (laws.stands s).0 in let few = (laws.few s).1 in omega arith) in
-    fewer_left (b.bases s) (laws.exchange s) (b.seats s) (laws.width s) (laws.few s).1 (b.top s) (laws.stands s).1 (laws.high s) above grades x (laws.stands s).0 c.loop-i.left i c.loop-i.invariant.1 donor c.without-left.result c.standing_reach-reach.result c.with.result low c.loop-i.invariant.0 c.without-left.type_inv c.with.ensures c.without-left.ensures
+    fewer_left (laws.family s) above grades x (laws.stands s).0 c.loop-i.left i c.loop-i.invariant.1 donor c.without-left.result c.standing_reach-reach.result c.with.result low c.loop-i.invariant.0 c.without-left.type_inv c.with.ensures c.without-left.ensures
 
 pub loop-i-preserved : goal.loop-i-preserved
 loop-i-preserved g c =
@@ -57,7 +57,7 @@ loop-i-preserved g c =
     let donor = c.in-Some.ensures in
     let low : c.in-Some.i < 64 = (let seat = seat_of x i donor.has.1 in let w = laws.width s x (laws.stands s).0 in let few = (laws.few s).1 in omega arith) in (
       c.without-left.type_inv,
-      left_out (b.bases s) (laws.exchange s) (b.seats s) (laws.width s) (laws.few s).1 (b.top s) (laws.stands s).1 (laws.high s) above grades x (laws.stands s).0 c.loop-i.left i c.loop-i.invariant.1 donor c.without-left.result c.standing_reach-reach.result c.with.result low c.standing_reach-reach.ensures c.with.ensures c.without-left.ensures c.in_default-best_receiver.ensures,
+      left_out (laws.family s) above grades x (laws.stands s).0 c.loop-i.left i c.loop-i.invariant.1 donor c.without-left.result c.standing_reach-reach.result c.with.result low c.standing_reach-reach.ensures c.with.ensures c.without-left.ensures c.in_default-best_receiver.ensures,
     )
 
 -- where no seat that is left has a unit, there is no step

@@ -11,6 +11,6 @@ returns g c =
     let x = b.loads s in
     let above = g.G.Grading.above c.args.grading.now in
     let grades = g.met.G.Grading.order c.args.grading.now in
-    let order = donors_order (b.bases s) (laws.exchange s) (b.seats s) (laws.width s) (laws.few s).1 (b.top s) (laws.stands s).1 (laws.high s) above grades x (laws.stands s).0 c.args.seats in
+    let order = donors_order (laws.family s) above grades x (laws.stands s).0 c.args.seats in
     donors above x c.args.seats c.foremost.result
     (c.foremost.ensures (gives x) (better_donor above x) (λ i r seat answer. search rules) (λ i j r hi hj answer. search rules) order)

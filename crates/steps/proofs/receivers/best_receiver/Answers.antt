@@ -11,6 +11,6 @@ returns g c =
     let x = b.loads s in
     let above = g.G.Grading.above c.args.grading.now in
     let grades = g.met.G.Grading.order c.args.grading.now in
-    let order = receivers_order (b.bases s) (laws.exchange s) (b.seats s) (laws.width s) (laws.few s).1 (b.top s) (laws.stands s).1 (laws.high s) above grades x (laws.stands s).0 c.args.i c.args.reach c.requires in
+    let order = receivers_order (laws.family s) above grades x (laws.stands s).0 c.args.i c.args.reach c.requires in
     receivers (b.bases s) above x c.args.i c.args.reach c.requires c.foremost.result
     (c.foremost.ensures (betters above x c.args.i) (better_receiver above x) (λ j r seat answer. search rules) (λ j k r hj hk answer. search rules) order)
