@@ -1,14 +1,14 @@
 -- A set of seats and the rising list of its seats: each is made from the other, and how the list grows with the set. Assumes nothing.
-use Rattle.std.proofs.Common.{◌≡◌, ℕ, zero, suc, ◌+◌, ◌*◌, ◌/◌, ◌%◌, ◌^◌, ◌<◌, ◌≤◌, eqb, ◌⊎◌, List, [], ◌∷◌, ◌++◌, length, sym, refl, ap, ◌∙◌, subst, inl, inr, ⊎_elim, add_assoc, mul_assoc, one-mul, pow-suc, mul-zero, mul-one, mul-add, add-one, arith, pow_mono}
-use lib.Bits.{bit_and, bit_or, or_lt, and_lt, or_disjoint}
+use Rattle.std.proofs.Common.{◌≡◌, ℕ, zero, suc, ◌+◌, ◌*◌, ◌/◌, ◌%◌, ◌^◌, ◌<◌, ◌≤◌, Option, Some, None, MatchOption, eqb, ◌⊎◌, List, [], ◌∷◌, ◌++◌, length, sym, refl, ap, ◌∙◌, subst, inl, inr, ⊎_elim, add_assoc, mul_assoc, one-mul, pow-suc, mul-zero, mul-one, mul-add, add-one, arith, pow_mono}
+use lib.Bits.{bit_and, bit_or, or_disjoint}
 use lib.Count.{ones, ones_step}
-use lib.Pow.{pow-lt}
-use Rattle.std.proofs.lemmas.Bool.{cases_eq, cases_lt, cond_both, eqb-true, eqb-false}
+use Rattle.std.proofs.lemmas.Bool.{cases_eq, cond_both, eqb-true, eqb-false}
 use Rattle.seats.specs.Sets.{In, Exactly, Taken}
 use Rattle.seats.specs.Lists.{seats_from, seats_of, set_of, Rising}
 use Rattle.seats.proofs.Digits.{digit_zero, digit_suc, half_lt, even_or_odd}
 use Rattle.seats.proofs.Members.{in_small, same_sets, none_empty, shared, power, inserted}
 use Rattle.seats.proofs.Counts.{ones_none}
+use Rattle.seats.proofs.Walks.{NoneBelow, half_none}
 
 -- what holds of the list at an odd number and at an even one holds of it
 step :
@@ -176,23 +176,18 @@ set_push : (xs : List ℕ) (x : ℕ) → set_of (xs ++ x ∷ []) ≡ set_of xs +
 set_push [] x = omega arith
 set_push (y ∷ ys) x = ap (λ z. 2 ^ y + z) (set_push ys x) ∙ sym (add_assoc (2 ^ y) (set_of ys) (2 ^ x))
 
--- a set with exactly one member more is more by the power of that seat
-power_more :
-    (k a b i : ℕ) → a < 2 ^ k → b < 2 ^ k → i < k → (In i a → ⊥) → ((j : ℕ) → Exactly (In j b) (In j a ⊎ (j ≡ i)))
-    → b ≡ a + 2 ^ i
-power_more k a b i ha hb hi out more =
-    same_sets k b (bit_or a (2 ^ i)) hb (or_lt k a (2 ^ i) ha (pow-lt hi)) same ∙ or_disjoint a (2 ^ i) apart
-  where
-    same : (j : ℕ) → Exactly (In j b) (In j (bit_or a (2 ^ i)))
-    same j = (λ m. (inserted a i j).1 ((more j).0 m), λ m. (more j).1 ((inserted a i j).0 m))
+-- a set with exactly one member more is its `or` with the power of that seat
+or_more : (a b i : ℕ) → ((j : ℕ) → Exactly (In j b) (In j a ⊎ (j ≡ i))) → b ≡ bit_or a (2 ^ i)
+or_more a b i more = same_sets b (bit_or a (2 ^ i)) (λ j. (λ m. (inserted a i j).1 ((more j).0 m), λ m. (more j).1 ((inserted a i j).0 m)))
 
+-- and it is more by that power
+power_more : (a b i : ℕ) → (In i a → ⊥) → ((j : ℕ) → Exactly (In j b) (In j a ⊎ (j ≡ i))) → b ≡ a + 2 ^ i
+power_more a b i out more = or_more a b i more ∙ or_disjoint a (2 ^ i) (none_empty (bit_and a (2 ^ i)) none)
+  where
     none : (j : ℕ) → In j (bit_and a (2 ^ i)) → ⊥
     none j m =
         let both = (shared a (2 ^ i) j).0 m in
         out (subst (λ (x : ℕ). In x a) ((power i j).0 both.1) both.0)
-
-    apart : bit_and a (2 ^ i) ≡ 0
-    apart = none_empty k (bit_and a (2 ^ i)) (and_lt k a (2 ^ i) ha (pow-lt hi)) none
 
 -- a set with a seat more, above all others, has it at the end of its list
 pub seats_more :
@@ -202,31 +197,51 @@ seats_more s r seat hs hr h low more = ap seats_of as_set ∙ seats_of_set (seat
   where
     as_set : r ≡ set_of (seats_of s ++ seat ∷ [])
     as_set =
-        power_more 64 s r seat hs hr h (λ m. omega (arith, low seat m)) more
+        power_more s r seat (λ m. omega (arith, low seat m)) more
         ∙ ap (λ x. x + 2 ^ seat) (sym (set_of_seats s hs)) ∙ sym (set_push (seats_of s) seat)
 
     rising : Rising 64 0 (seats_of s ++ seat ∷ [])
     rising = rising_push 64 0 seat (seats_of s) (omega arith) h (seats_between seat 0 s (λ j m. (omega arith, low j m)))
 
--- a set has its lowest seat at the start of its list, and the rest is what is left when it is taken
-pub seats_taken : (old new t : ℕ) → old < 2 ^ 64 → new < 2 ^ 64 → Taken old new t → seats_of old ≡ t ∷ seats_of new
-seats_taken old new t ho hn took = ap seats_of as_set ∙ seats_of_set (t ∷ seats_of new) rising
+-- the list from k on begins with the lowest seat, and goes on with the seats of the set without it
+from_taken :
+    (w k t old new : ℕ) → t < w → In t old → NoneBelow old t → ((j : ℕ) → Exactly (In j new) (In j old × (j ≡ t → ⊥)))
+    → seats_from w k old ≡ (k + t) ∷ seats_from w k new
+from_taken zero k t old new h m none others = absurd (omega arith)
+from_taken (suc w) k zero old new h m none others =
+    step (λ xs. xs ≡ (k + 0) ∷ seats_from (suc w) k new) w k old
+    (λ o. step (λ ys. k ∷ seats_from w (k + 1) (old / 2) ≡ (k + 0) ∷ ys) w k new
+    (λ p. absurd (((others 0).0 (digit_zero new ∙ p)).1 refl))
+    (λ z. ap (λ x. x ∷ seats_from w (k + 1) (old / 2)) (omega arith) ∙ ap (λ s. (k + 0) ∷ seats_from w (k + 1) s) halves))
+    (λ z. absurd (omega (arith, digit_zero old)))
   where
-    more : (j : ℕ) → Exactly (In j old) (In j new ⊎ (j ≡ t))
-    more j = (
-      λ m. ⊎_elim inr (λ ne. inl ((took.others j).1 (m, ne))) (cases_eq j t),
-      ⊎_elim (λ m. ((took.others j).0 m).0) (λ p. subst (λ (x : ℕ). In x old) (sym p) took.lowest.member),
+    halves : old / 2 ≡ new / 2
+    halves = same_sets (old / 2) (new / 2) (λ j. (
+      λ n. sym (digit_suc j new) ∙ (others (suc j)).1 (digit_suc j old ∙ n, λ e. absurd (omega (arith, e))),
+      λ n. sym (digit_suc j old) ∙ ((others (suc j)).0 (digit_suc j new ∙ n)).0,
+    ))
+from_taken (suc w) k (suc t) old new h m none others =
+    step (λ xs. xs ≡ (k + suc t) ∷ seats_from (suc w) k new) w k old (λ o. absurd (none 0 (omega arith) (digit_zero old ∙ o)))
+    (λ z. step (λ ys. seats_from w (k + 1) (old / 2) ≡ (k + suc t) ∷ ys) w k new
+    (λ p. absurd (none 0 (omega arith) ((others 0).0 (digit_zero new ∙ p)).0))
+    (λ y. from_taken w (k + 1) t (old / 2) (new / 2) (omega arith) (sym (digit_suc t old) ∙ m) (half_none old t none) halves ∙ ap (λ x. x ∷ seats_from w (k + 1) (new / 2)) (omega arith)))
+  where
+    halves : (j : ℕ) → Exactly (In j (new / 2)) (In j (old / 2) × (j ≡ t → ⊥))
+    halves j = (
+      λ n. let was = (others (suc j)).0 (digit_suc j new ∙ n) in (sym (digit_suc j old) ∙ was.0, λ e. was.1 (ap suc e)),
+      λ p. sym (digit_suc j new) ∙ (others (suc j)).1 (digit_suc j old ∙ p.0, λ e. p.1 (omega (arith, e))),
     )
 
-    as_set : old ≡ 2 ^ t + set_of (seats_of new)
-    as_set =
-        let sum = power_more 64 new old t hn ho took.lowest.seated (λ m. ((took.others t).0 m).1 refl) more in
-        omega (arith, set_of_seats new hn)
+-- a set has its lowest seat at the start of its list, and the rest is what is left when it is taken
+pub seats_taken : (old new t : ℕ) → Taken old new t → seats_of old ≡ t ∷ seats_of new
+unfolding seats_of
+seats_taken old new t took =
+    from_taken 64 0 t old new took.lowest.seated took.lowest.member took.lowest.least took.others
+    ∙ ap (λ x. x ∷ seats_from 64 0 new) (omega arith)
 
-    above : (j : ℕ) → In j new → t + 1 ≤ j
-    above j m =
-        let was = (took.others j).0 m in
-        ⊎_elim (λ (l : j < t). absurd (took.lowest.least j l was.0)) (λ (l : t ≤ j). omega (arith, was.1)) (cases_lt j t)
-
-    rising : Rising 64 0 (t ∷ seats_of new)
-    rising = ((omega arith, took.lowest.seated), seats_between 64 (t + 1) new (λ j m. (above j m, member_below 64 new hn j m)))
+-- as the lowest seat of a set is taken, the first of its list goes
+pub first_taken :
+    (old new : ℕ) (r : Option ℕ) → MatchOption r ((old ≡ 0) × (new ≡ 0)) (λ t. Taken old new t)
+    → MatchOption r ((seats_of old ≡ []) × (seats_of new ≡ [])) (λ t. seats_of old ≡ t ∷ seats_of new)
+first_taken old new None none = (ap seats_of none.0 ∙ seats_of_none, ap seats_of none.1 ∙ seats_of_none)
+first_taken old new (Some t) took = seats_taken old new t took

@@ -4,8 +4,9 @@ use native.Mathlib.Nat.{sub-zero}
 use lib.Bits.{bit_and, bit_or}
 use borrow.Author.Tests.{eqb-false}
 use Rattle.std.proofs.lemmas.Bool.{cases_eq, cases_lt}
+use Rattle.std.proofs.lemmas.Nat.Bits.{same_from_bits}
 use Rattle.seats.specs.Sets.{In, Within, Exactly, Joined, Shared, Removed}
-use Rattle.seats.proofs.Digits.{digit, digit_lt, zero_or_one, digit_of_zero, digit_and, digit_or, digit_not, digit_above, digit_one, digit_other, same_digits}
+use Rattle.seats.proofs.Digits.{digit, digit_lt, zero_or_one, digit_of_zero, digit_and, digit_or, digit_not, digit_above, digit_one, digit_other}
 
 -- a seat belongs, or its digit is nought
 pub in_or_nought : (i s : ℕ) → In i s ⊎ (digit i s ≡ 0)
@@ -34,8 +35,8 @@ in_small k i s h m =
     ⊎_elim (λ (low : i < k). low) (λ (high : k ≤ i). let z = digit_above k i s h high in absurd (omega arith)) (cases_lt i k)
 
 -- sets with the same members are equal
-pub same_sets : (k a b : ℕ) → a < 2 ^ k → b < 2 ^ k → ((i : ℕ) → (In i a → In i b) × (In i b → In i a)) → a ≡ b
-same_sets k a b ha hb same = same_digits k a b ha hb digits
+pub same_sets : (a b : ℕ) → ((i : ℕ) → Exactly (In i a) (In i b)) → a ≡ b
+same_sets a b same = same_from_bits a b digits
   where
     digits : (i : ℕ) → digit i a ≡ digit i b
     digits i =
@@ -43,8 +44,8 @@ same_sets k a b ha hb same = same_digits k a b ha hb digits
         (λ z. let w = out_nought i b (λ n. let m = (same i).1 n in omega arith) in omega arith) (in_or_nought i a)
 
 -- a set without members is nought
-pub none_empty : (k s : ℕ) → s < 2 ^ k → ((i : ℕ) → In i s → ⊥) → s ≡ 0
-none_empty k s h none = same_sets k s 0 h (pow_pos k) (λ i. (λ m. absurd (none i m), λ m. absurd (in_none i m)))
+pub none_empty : (s : ℕ) → ((i : ℕ) → In i s → ⊥) → s ≡ 0
+none_empty s none = same_sets s 0 (λ i. (λ m. absurd (none i m), λ m. absurd (in_none i m)))
 
 -- the members of an `or`: those of either
 pub joined : (a b : ℕ) → Joined a b (bit_or a b)
@@ -84,15 +85,15 @@ removed a b ha hb j = (into, back)
     back p = (shared a (2 ^ 64 - 1 - b) j).1 (p.0, (complement 64 b j hb (in_small 64 j a ha p.0)).1 p.1)
 
 -- nothing is left of a, without the seats of b, exactly where a is within b
-pub within_when : (a b r : ℕ) → r < 2 ^ 64 → Removed a b r → MatchBool (eqb r 0) (Within a b) (Within a b → ⊥)
-within_when a b r hr gone = go (eqb r 0) refl
+pub within_when : (a b r : ℕ) → Removed a b r → MatchBool (eqb r 0) (Within a b) (Within a b → ⊥)
+within_when a b r gone = go (eqb r 0) refl
   where
     inside : r ≡ 0 → Within a b
     inside e i m =
         ⊎_elim (λ y. y) (λ out. let n = (gone i).1 (m, out) in absurd (omega (arith, in_positive i r n))) (in_or_not i b)
 
     nothing : Within a b → r ≡ 0
-    nothing w = none_empty 64 r hr (λ i m. let p = (gone i).0 m in p.1 (w i p.0))
+    nothing w = none_empty r (λ i m. let p = (gone i).0 m in p.1 (w i p.0))
 
     go : (t : Bool) → eqb r 0 ≡ t → MatchBool t (Within a b) (Within a b → ⊥)
     go true e = inside (eqb-true _ _ e)

@@ -32,7 +32,7 @@ none_below_suc s t e none zero h m = omega (arith, digit_zero s)
 none_below_suc s t e none (suc j) h m = none j (omega arith) (sym (digit_suc j s) ∙ m)
 
 -- the half of a number that has no member below suc t has none below t
-half_none : (s t : ℕ) → NoneBelow s (suc t) → NoneBelow (s / 2) t
+pub half_none : (s t : ℕ) → NoneBelow s (suc t) → NoneBelow (s / 2) t
 half_none s t none j h m = none (suc j) (omega arith) (digit_suc j s ∙ m)
 
 -- the seat at the count of trailing noughts is the lowest member

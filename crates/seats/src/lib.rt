@@ -3,6 +3,7 @@
 #![tactic(auto)]
 
 ghost use Rattle.std.specs.Prelude.{◌≡◌, MatchBool, MatchOption, count_ones};
+ghost use Rattle.std.specs.Iterator.{at_most};
 ghost use Rattle.seats.specs.Sets.{In, Within, Inserted, Joined, Shared, Removed, Below, Lowest, Taken};
 
 // How many seats belong.
@@ -88,4 +89,29 @@ pub fn take_lowest(left: &mut u64) -> Option<u8>
     let seat = lowest(*left)?;
     *left &= *left - 1;
     Some(seat)
+}
+
+// The seats of a set that are still to come, from the lowest up.
+#[derive(Drop)]
+pub struct InOrder {
+    pub left: u64,
+}
+
+impl Iterator for InOrder {
+    type Item = u8;
+
+    ghost next_gives = { λ s r t. MatchOption r ((s.left ≡ 0) × (t.left ≡ 0)) (λ seat. Taken s.left t.left seat) };
+
+    ghost remaining = { λ s. at_most (count_ones s.left) };
+
+    fn next(&mut self) -> Option<u8> {
+        take_lowest(&mut self.left)
+    }
+}
+
+// The seats of a set, from the lowest up.
+pub fn members_of(set: u64) -> InOrder
+    ensures { result.left ≡ set }
+{
+    InOrder { left: set }
 }
