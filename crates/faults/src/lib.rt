@@ -6,29 +6,32 @@ ghost use Rattle.faults.specs.Reasons.{number_of};
 ghost use Rattle.faults.specs.Depth.{deepened, raised, passed_up};
 ghost use Rattle.faults.specs.Places.{shown_place, fault_at, fault_nowhere, fault_on_page};
 
-// Why a call is refused.
+use std::error::Error;
+use std::fmt;
+
+// Why a call is refused, with the number under which the reason is tabled.
 #[derive(Clone, Copy, PartialEq, Eq, Debug)]
 pub enum Reason {
-    NoSuchSeat,
-    SeatsEqual,
-    NoSuchBase,
-    CapForbids,
-    CrossesFavoured,
-    BeyondLimits,
-    BudgetSpent,
-    NoBaseWithinCap,
-    TooManyEntries,
-    CeilingPassed,
-    NotLevel,
-    TooFewRows,
-    Layout,
-    NumberBeyondLimits,
-    ListNotRising,
-    FewerLicensed,
-    EndsEqual,
-    ParentNotLower,
-    NestsHaveNoBase,
-    OutputTooShort,
+    NoSuchSeat = 1,
+    SeatsEqual = 2,
+    NoSuchBase = 3,
+    CapForbids = 4,
+    CrossesFavoured = 5,
+    BeyondLimits = 6,
+    BudgetSpent = 7,
+    NoBaseWithinCap = 8,
+    TooManyEntries = 9,
+    CeilingPassed = 10,
+    NotLevel = 11,
+    TooFewRows = 12,
+    Layout = 13,
+    NumberBeyondLimits = 14,
+    ListNotRising = 15,
+    FewerLicensed = 16,
+    EndsEqual = 17,
+    ParentNotLower = 18,
+    NestsHaveNoBase = 19,
+    OutputTooShort = 20,
 }
 
 // Where it is refused.
@@ -68,28 +71,7 @@ impl Reason {
     pub fn number(self) -> u8
         ensures { result ≡ number_of self }
     {
-        match self {
-            Reason::NoSuchSeat => 1,
-            Reason::SeatsEqual => 2,
-            Reason::NoSuchBase => 3,
-            Reason::CapForbids => 4,
-            Reason::CrossesFavoured => 5,
-            Reason::BeyondLimits => 6,
-            Reason::BudgetSpent => 7,
-            Reason::NoBaseWithinCap => 8,
-            Reason::TooManyEntries => 9,
-            Reason::CeilingPassed => 10,
-            Reason::NotLevel => 11,
-            Reason::TooFewRows => 12,
-            Reason::Layout => 13,
-            Reason::NumberBeyondLimits => 14,
-            Reason::ListNotRising => 15,
-            Reason::FewerLicensed => 16,
-            Reason::EndsEqual => 17,
-            Reason::ParentNotLower => 18,
-            Reason::NestsHaveNoBase => 19,
-            Reason::OutputTooShort => 20,
-        }
+        self as u8
     }
 }
 
@@ -136,33 +118,39 @@ impl Fault {
     {
         match self.place {
             Place::None => 0,
-            Place::Seat(seat) => u32::from(seat),
-            Place::Entry(entry) => u32::from(entry),
+            Place::Seat(number) | Place::Entry(number) => u32::from(number),
             Place::Column { column, .. } => column,
         }
     }
 
     // The same fault, seen from one layer higher: one deeper, and the largest depth stays.
-    pub fn raised(self) -> Fault
+    pub fn raised(mut self) -> Fault
         ensures { result ≡ raised self }
     {
         if self.depth < 999_999 {
-            Fault {
-                depth: self.depth + 1,
-                ..self
-            }
-        } else {
-            self
+            self.depth += 1;
         }
+        self
     }
 }
+
+// A refusal in words, as `NoSuchBase (number 3) at Seat(0), by Legs at depth 2`.
+impl fmt::Display for Fault {
+    fn fmt<W: fmt::Write>(&self, f: &mut fmt::Formatter<W>) -> fmt::Result {
+        let number = self.reason.number();
+        write!(
+            f,
+            "{:?} (number {number}) at {:?}, by {:?} at depth {}",
+            self.reason, self.place, self.kind, self.depth
+        )
+    }
+}
+
+impl Error for Fault {}
 
 // What the system below answered, its fault seen from one layer higher.
 pub fn passed_up<T>(answer: Result<T, Fault>) -> Result<T, Fault>
     ensures { result ≡ passed_up answer }
 {
-    match answer {
-        Ok(value) => Ok(value),
-        Err(fault) => Err(fault.raised()),
-    }
+    answer.map_err(Fault::raised)
 }

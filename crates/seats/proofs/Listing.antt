@@ -1,10 +1,13 @@
 -- A set of seats and the rising list of its seats: each is made from the other, and how the list grows with the set. Assumes nothing.
-use Rattle.std.proofs.Common.{◌≡◌, ℕ, zero, suc, ◌+◌, ◌*◌, ◌/◌, ◌%◌, ◌^◌, ◌<◌, ◌≤◌, Option, Some, None, MatchOption, eqb, ◌⊎◌, List, [], ◌∷◌, ◌++◌, length, sym, refl, ap, ◌∙◌, subst, inl, inr, ⊎_elim, add_assoc, mul_assoc, one-mul, pow-suc, mul-zero, mul-one, mul-add, add-one, arith, pow_mono}
+use Rattle.std.proofs.Common.{◌≡◌, ℕ, zero, suc, ◌+◌, ◌*◌, ◌/◌, ◌%◌, ◌^◌, ◌<◌, ◌≤◌, Some, None, eqb, ◌⊎◌, List, [], ◌∷◌, ◌++◌, length, sym, refl, ap, ◌∙◌, subst, inl, inr, ⊎_elim, add_assoc, mul_assoc, one-mul, pow-suc, mul-zero, mul-one, mul-add, add-one, arith, pow_mono}
 use lib.Bits.{bit_and, bit_or, or_disjoint}
 use lib.Count.{ones, ones_step}
 use Rattle.std.proofs.lemmas.Bool.{cases_eq, cond_both, eqb-true, eqb-false}
 use Rattle.seats.specs.Sets.{In, Exactly, Taken}
-use Rattle.seats.specs.Lists.{seats_from, seats_of, set_of, Rising}
+use Rattle.std.specs.Iterator.Runs.{YieldsInOrder}
+use Rattle.std.proofs.iter.runs.Sources.{from_front, as_is}
+use Rattle.seats.specs.declared.InOrder.{InOrder}
+use Rattle.seats.specs.Lists.{seats_from, seats_of, set_of, Rising, to_come, TakesLowest}
 use Rattle.seats.proofs.Digits.{digit_zero, digit_suc, half_lt, even_or_odd}
 use Rattle.seats.proofs.Members.{in_small, same_sets, none_empty, shared, power, inserted}
 use Rattle.seats.proofs.Counts.{ones_none}
@@ -239,9 +242,12 @@ seats_taken old new t took =
     from_taken 64 0 t old new took.lowest.seated took.lowest.member took.lowest.least took.others
     ∙ ap (λ x. x ∷ seats_from 64 0 new) (omega arith)
 
--- as the lowest seat of a set is taken, the first of its list goes
-pub first_taken :
-    (old new : ℕ) (r : Option ℕ) → MatchOption r ((old ≡ 0) × (new ≡ 0)) (λ t. Taken old new t)
-    → MatchOption r ((seats_of old ≡ []) × (seats_of new ≡ [])) (λ t. seats_of old ≡ t ∷ seats_of new)
-first_taken old new None none = (ap seats_of none.0 ∙ seats_of_none, ap seats_of none.1 ∙ seats_of_none)
-first_taken old new (Some t) took = seats_taken old new t took
+-- a walk through a set gives the seats of its list, in order
+pub runs_in_order : YieldsInOrder TakesLowest to_come
+runs_in_order p seen = as_is p (to_come p.from) (from_front TakesLowest (λ x. x) to_come none first p seen)
+  where
+    none : (s t : InOrder) → TakesLowest s None t → length (to_come s) ≡ 0
+    none s t left = ap (λ x. length (seats_of x)) left.0 ∙ ap length seats_of_none
+
+    first : (s : InOrder) (x : ℕ) (t : InOrder) → TakesLowest s (Some x) t → to_come s ≡ x ∷ to_come t
+    first s x t took = seats_taken s.left t.left x took

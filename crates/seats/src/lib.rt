@@ -4,7 +4,9 @@
 
 ghost use Rattle.std.specs.Prelude.{◌≡◌, MatchBool, MatchOption, count_ones};
 ghost use Rattle.std.specs.Iterator.{at_most};
+ghost use Rattle.std.specs.Iterator.Runs.{YieldsInOrder};
 ghost use Rattle.seats.specs.Sets.{In, Within, Inserted, Joined, Shared, Removed, Below, Lowest, Taken};
+ghost use Rattle.seats.specs.Lists.{to_come, TakesLowest};
 
 // How many seats belong.
 pub fn size(set: u64) -> u32
@@ -100,7 +102,7 @@ pub struct InOrder {
 impl Iterator for InOrder {
     type Item = u8;
 
-    ghost next_gives = { λ s r t. MatchOption r ((s.left ≡ 0) × (t.left ≡ 0)) (λ seat. Taken s.left t.left seat) };
+    ghost next_gives = { TakesLowest };
 
     ghost remaining = { λ s. at_most (count_ones s.left) };
 
@@ -111,7 +113,8 @@ impl Iterator for InOrder {
 
 // The seats of a set, from the lowest up.
 pub fn members_of(set: u64) -> InOrder
-    ensures { result.left ≡ set }
+    ensures set { result.left ≡ set }
+    ensures runs { YieldsInOrder TakesLowest to_come }
 {
     InOrder { left: set }
 }

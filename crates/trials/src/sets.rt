@@ -1,5 +1,6 @@
 // Sets of seats.
-use seats::{first, has, size, take_lowest, union, with, within, without};
+use seats::{first, has, members_of, size, take_lowest, union, with, within, without};
+use std::test::Fail;
 
 #[test]
 fn sizes_and_members(rt: HostRuntime) {
@@ -46,4 +47,12 @@ fn walks_in_seat_order(rt: HostRuntime) {
     assert_eq!(rt; take_lowest(&mut left), Some(3));
     assert_eq!(rt; take_lowest(&mut left), Some(63));
     assert_eq!(rt; take_lowest(&mut left), None);
+}
+
+#[test]
+fn members_in_seat_order(rt: HostRuntime) -> Result<(), Fail> {
+    let seats: Vec<u8> = members_of((1 << 63) | 0b1010).collect(rt.alloc())?;
+    assert_eq!(rt; seats.as_slice(), [1, 3, 63].as_slice());
+    assert_eq!(rt; members_of(0).count(), 0);
+    Ok(())
 }
