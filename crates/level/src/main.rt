@@ -10,29 +10,33 @@ use plans::{plan, plan_by_shares};
 use relief::relieve;
 use show::show_fault;
 use std::alloc::{AllocError, Global};
+use std::io;
 
 fn main(rt: HostRuntime) -> anyhow::Result<()> {
-    match LegTable::new(3, stations(rt.alloc())?) {
-        Ok(table) => relieve(&rt, table)?,
-        Err(fault) => show_fault(&rt, fault)?,
-    }
-    match LegTable::new(3, stations(rt.alloc())?) {
-        Ok(table) => plan(&rt, table)?,
-        Err(fault) => show_fault(&rt, fault)?,
-    }
-    match LegTable::new(
-        2,
-        [Leg {
-            a: 0,
-            b: 1,
-            passages: 2,
-        }]
-        .to_vec(rt.alloc())?,
-    ) {
-        Ok(table) => plan_by_shares(&rt, table)?,
-        Err(fault) => show_fault(&rt, fault)?,
-    }
+    let two = [Leg {
+        a: 0,
+        b: 1,
+        passages: 2,
+    }];
+    with_table(&rt, 3, stations(rt.alloc())?, relieve)?;
+    with_table(&rt, 3, stations(rt.alloc())?, plan)?;
+    with_table(&rt, 2, two.to_vec(rt.alloc())?, plan_by_shares)?;
     Ok(())
+}
+
+// Makes a table of the legs and goes on with it, or tells why it is refused.
+fn with_table<F: FnOnce(&HostRuntime, LegTable) -> io::Result<()>>(
+    rt: &HostRuntime,
+    seats: u8,
+    legs: Vec<Leg>,
+    show: F,
+) -> io::Result<()>
+    requires { F.IsAlwaysCallable show }
+{
+    match LegTable::new(seats, legs) {
+        Ok(table) => show(rt, table),
+        Err(fault) => show_fault(rt, fault),
+    }
 }
 
 // Three stations in a row: the heaviest can only be relieved through the middle one.

@@ -1,13 +1,11 @@
 // Levelled plans.
-ghost use Rattle.bases.specs.Says.{Stands};
-
 use crate::show::{show_fault, show_loads, show_set};
 use bases::BaseSystem;
 use certificates::{CertRow, certify, check};
 use chains::Divided;
 use grades::{Grading, Shares, Whole};
 use legs::LegTable;
-use levels::{Answer, level};
+use levels::level;
 use std::io;
 
 // The plan by whole loads, with its certificate.
@@ -36,41 +34,25 @@ fn show_level<S: BaseSystem, G: Grading>(
     s: &mut S,
     grading: &G,
     budget: u32,
-) -> io::Result<()>
-    requires { Stands (S.BaseSystem.bases s.old) (S.BaseSystem.loads s.old) (S.BaseSystem.top s.old) }
-    ensures { Stands (S.BaseSystem.bases s.new) (S.BaseSystem.loads s.new) (S.BaseSystem.top s.new) }
-{
+) -> io::Result<()> {
     match level(s, grading, budget) {
-        Ok(Answer::Level(steps)) => println!(rt; "level after {steps} steps"),
-        Ok(Answer::Spent) => println!(rt; "spent after {budget} steps"),
+        Ok(Some(steps)) => println!(rt; "level after {steps} steps"),
+        Ok(None) => println!(rt; "spent after {budget} steps"),
         Err(fault) => show_fault(rt, fault),
     }
 }
 
 // Certifies a level system, and checks the certificate.
-fn show_certificate<S: BaseSystem>(rt: &HostRuntime, s: &S) -> io::Result<()>
-    requires { Stands (S.BaseSystem.bases s.now) (S.BaseSystem.loads s.now) (S.BaseSystem.top s.now) }
-{
+fn show_certificate<S: BaseSystem>(rt: &HostRuntime, s: &S) -> io::Result<()> {
     let mut table = [CertRow { value: 0, set: 0 }; 64];
     match certify(s, &mut table) {
-        Ok(count) => show_rows(rt, s, &table, count),
+        Ok(count) => show_rows(rt, s, &table[..count]),
         Err(fault) => show_fault(rt, fault),
     }
 }
 
 // The rows of a certificate, and whether they pass.
-fn show_rows<S: BaseSystem>(
-    rt: &HostRuntime,
-    s: &S,
-    table: &[CertRow],
-    count: usize,
-) -> io::Result<()>
-    requires { Stands (S.BaseSystem.bases s.now) (S.BaseSystem.loads s.now) (S.BaseSystem.top s.now) }
-{
-    if count > table.len() {
-        return Ok(());
-    }
-    let rows = &table[0..count];
+fn show_rows<S: BaseSystem>(rt: &HostRuntime, s: &S, rows: &[CertRow]) -> io::Result<()> {
     for row in rows {
         print!(rt; "certificate: load {}, stations", row.value)?;
         show_set(rt, row.set)?;

@@ -1,16 +1,12 @@
 // What the program prints.
-ghost use Rattle.bases.specs.Says.{Stands};
-
 use bases::{BaseSystem, standing_load};
 use faults::Fault;
 use legs::LegRow;
-use seats::take_lowest;
+use seats::members_of;
 use std::io;
 
 // The load of each seat.
-pub fn show_loads<S: BaseSystem>(rt: &HostRuntime, s: &S) -> io::Result<()>
-    requires { Stands (S.BaseSystem.bases s.now) (S.BaseSystem.loads s.now) (S.BaseSystem.top s.now) }
-{
+pub fn show_loads<S: BaseSystem>(rt: &HostRuntime, s: &S) -> io::Result<()> {
     for i in 0..s.count() {
         println!(rt; "station {i}: {}", standing_load(s, i))?;
     }
@@ -18,9 +14,7 @@ pub fn show_loads<S: BaseSystem>(rt: &HostRuntime, s: &S) -> io::Result<()>
 }
 
 // The seats that can take a unit from seat i.
-pub fn show_reach<S: BaseSystem>(rt: &HostRuntime, s: &S, i: u8) -> io::Result<()>
-    requires { Stands (S.BaseSystem.bases s.now) (S.BaseSystem.loads s.now) (S.BaseSystem.top s.now) }
-{
+pub fn show_reach<S: BaseSystem>(rt: &HostRuntime, s: &S, i: u8) -> io::Result<()> {
     match s.reach(i) {
         Ok(reach) => {
             print!(rt; "reach of station {i}:")?;
@@ -32,19 +26,14 @@ pub fn show_reach<S: BaseSystem>(rt: &HostRuntime, s: &S, i: u8) -> io::Result<(
 
 // The seats of a set, to the end of the line.
 pub fn show_set(rt: &HostRuntime, set: u64) -> io::Result<()> {
-    let mut left = set;
-    while let Some(seat) = take_lowest(&mut left) {
+    for seat in members_of(set) {
         print!(rt; " {seat}")?;
     }
-    println!(rt; "")?;
-    Ok(())
+    println!(rt; "")
 }
 
 // Shifts one unit from i to j, and tells how many passages changed ends, or why it is refused.
-pub fn show_shift<S: BaseSystem>(rt: &HostRuntime, s: &mut S, i: u8, j: u8) -> io::Result<()>
-    requires { Stands (S.BaseSystem.bases s.old) (S.BaseSystem.loads s.old) (S.BaseSystem.top s.old) }
-    ensures { Stands (S.BaseSystem.bases s.new) (S.BaseSystem.loads s.new) (S.BaseSystem.top s.new) }
-{
+pub fn show_shift<S: BaseSystem>(rt: &HostRuntime, s: &mut S, i: u8, j: u8) -> io::Result<()> {
     match s.shift(i, j) {
         Ok(count) => println!(rt; "shift from {i} to {j}: {count} passages changed ends"),
         Err(fault) => show_fault(rt, fault),
@@ -66,10 +55,5 @@ pub fn show_changes(rt: &HostRuntime, before: &[LegRow], after: &[LegRow]) -> io
 
 // A refusal in words.
 pub fn show_fault(rt: &HostRuntime, fault: Fault) -> io::Result<()> {
-    let number = fault.reason.number();
-    println!(rt;
-        "refused: {:?} (number {number}) at {:?}, by {:?} at depth {}",
-        fault.reason, fault.place, fault.kind, fault.depth
-    )?;
-    Ok(())
+    println!(rt; "refused: {fault}")
 }
