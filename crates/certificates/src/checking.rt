@@ -1,6 +1,5 @@
 // Checking a certificate.
 ghost use Rattle.std.specs.Prelude.{MatchBool};
-ghost use Rattle.bases.specs.Says.{Stands};
 ghost use Rattle.grades.specs.Grades.{whole};
 ghost use Rattle.optima.specs.Costs.{HeaviestLeast};
 ghost use Rattle.optima.specs.Steps.{LevelBy};
@@ -27,7 +26,6 @@ fn has_value(rows: &[CertRow], value: u32) -> bool
 
 // Whether each positive load has a row.
 fn all_covered<S: BaseSystem>(s: &S, rows: &[CertRow]) -> bool
-    requires { Stands (S.BaseSystem.bases s.now) (S.BaseSystem.loads s.now) (S.BaseSystem.top s.now) }
     ensures { MatchBool result (Covered (S.BaseSystem.loads s.now) rows.now) (Covered (S.BaseSystem.loads s.now) rows.now → ⊥) }
 {
     for i in 0..s.count() {
@@ -41,7 +39,6 @@ fn all_covered<S: BaseSystem>(s: &S, rows: &[CertRow]) -> bool
 
 // Whether the set holds every seat with at least this load, and none with less than one below.
 fn fits<S: BaseSystem>(s: &S, value: u32, set: u64) -> bool
-    requires { Stands (S.BaseSystem.bases s.now) (S.BaseSystem.loads s.now) (S.BaseSystem.top s.now) }
     ensures { MatchBool result (Fits (S.BaseSystem.loads s.now) value set) (Fits (S.BaseSystem.loads s.now) value set → ⊥) }
 {
     for i in 0..s.count() {
@@ -59,7 +56,6 @@ fn fits<S: BaseSystem>(s: &S, value: u32, set: u64) -> bool
 
 // Whether the reach of each seat of the set lies in it.
 fn closed<S: BaseSystem>(s: &S, set: u64) -> bool
-    requires { Stands (S.BaseSystem.bases s.now) (S.BaseSystem.loads s.now) (S.BaseSystem.top s.now) }
     ensures { MatchBool result (Closed (S.BaseSystem.bases s.now) (S.BaseSystem.loads s.now) set) (Closed (S.BaseSystem.bases s.now) (S.BaseSystem.loads s.now) set → ⊥) }
 {
     for i in 0..s.count() {
@@ -72,7 +68,6 @@ fn closed<S: BaseSystem>(s: &S, set: u64) -> bool
 
 // Whether a row passes.
 fn passes<S: BaseSystem>(s: &S, value: u32, set: u64) -> bool
-    requires { Stands (S.BaseSystem.bases s.now) (S.BaseSystem.loads s.now) (S.BaseSystem.top s.now) }
     ensures { MatchBool result (Passes (S.BaseSystem.bases s.now) (S.BaseSystem.loads s.now) value set) (Passes (S.BaseSystem.bases s.now) (S.BaseSystem.loads s.now) value set → ⊥) }
 {
     if value < 1 || value > MOST_VALUE {
@@ -89,7 +84,6 @@ fn passes<S: BaseSystem>(s: &S, value: u32, set: u64) -> bool
 
 // Whether each row passes.
 fn all_pass<S: BaseSystem>(s: &S, rows: &[CertRow]) -> bool
-    requires { Stands (S.BaseSystem.bases s.now) (S.BaseSystem.loads s.now) (S.BaseSystem.top s.now) }
     ensures { MatchBool result (AllPass (S.BaseSystem.bases s.now) (S.BaseSystem.loads s.now) rows.now) (AllPass (S.BaseSystem.bases s.now) (S.BaseSystem.loads s.now) rows.now → ⊥) }
 {
     for row in rows {
@@ -103,7 +97,6 @@ fn all_pass<S: BaseSystem>(s: &S, rows: &[CertRow]) -> bool
 // Whether each positive load has a row with its value, and each row passes. Where it says yes, the standing base is level by whole
 // loads, and for each k its k heaviest loads add up to no more than those of any base.
 pub fn check<S: BaseSystem>(s: &S, rows: &[CertRow]) -> bool
-    requires { Stands (S.BaseSystem.bases s.now) (S.BaseSystem.loads s.now) (S.BaseSystem.top s.now) }
     ensures answers { MatchBool result (Accepts (S.BaseSystem.bases s.now) (S.BaseSystem.loads s.now) rows.now) (Accepts (S.BaseSystem.bases s.now) (S.BaseSystem.loads s.now) rows.now → ⊥) }
     ensures levels { Accepts (S.BaseSystem.bases s.now) (S.BaseSystem.loads s.now) rows.now → LevelBy (S.BaseSystem.bases s.now) whole (S.BaseSystem.loads s.now) }
     ensures heaviest_least { Accepts (S.BaseSystem.bases s.now) (S.BaseSystem.loads s.now) rows.now → HeaviestLeast (S.BaseSystem.bases s.now) (S.BaseSystem.loads s.now) }

@@ -1,6 +1,5 @@
 // Making a certificate.
 ghost use Rattle.std.specs.Prelude.{◌≡◌, ◌≤◌, length};
-ghost use Rattle.bases.specs.Says.{Stands};
 ghost use Rattle.certificates.specs.Loads.{different_loads};
 ghost use Rattle.certificates.specs.Tables.{CertifySays, Filled};
 
@@ -14,8 +13,7 @@ use steps::find_step;
 
 // Writes one row for each different positive load, the highest first, and answers how many.
 fn fill<S: BaseSystem>(s: &S, table: &mut [CertRow]) -> usize
-    requires stands { Stands (S.BaseSystem.bases s.now) (S.BaseSystem.loads s.now) (S.BaseSystem.top s.now) }
-    requires room { different_loads (S.BaseSystem.loads s.now) ≤ length table.old }
+    requires { different_loads (S.BaseSystem.loads s.now) ≤ length table.old }
     ensures { Filled (S.BaseSystem.bases s.now) (S.BaseSystem.loads s.now) table.old table.new result }
 {
     let mut count = 0;
@@ -34,7 +32,6 @@ fn fill<S: BaseSystem>(s: &S, table: &mut [CertRow]) -> usize
 // Writes the rows which show that the standing base is level by whole loads, and answers how many. It is refused where the base is
 // not level, and then where the table has too few rows for the different positive loads; a refusal writes nothing.
 pub fn certify<S: BaseSystem>(s: &S, table: &mut [CertRow]) -> Result<usize, Fault>
-    requires { Stands (S.BaseSystem.bases s.now) (S.BaseSystem.loads s.now) (S.BaseSystem.top s.now) }
     ensures { CertifySays (S.BaseSystem.bases s.now) (S.BaseSystem.loads s.now) (S.BaseSystem.layer s.now) table.old table.new result }
 {
     if let Some(_) = find_step(s, &Whole) {

@@ -1,5 +1,4 @@
 // The set of seats of a row.
-ghost use Rattle.bases.specs.Says.{Stands};
 ghost use Rattle.certificates.specs.Tables.{RowFor};
 
 use bases::{BaseSystem, standing_load, standing_reach};
@@ -7,7 +6,6 @@ use seats::{union, with};
 
 // The seats with at least this load, and all seats in their reach.
 pub fn row_set<S: BaseSystem>(s: &S, value: u32) -> u64
-    requires { Stands (S.BaseSystem.bases s.now) (S.BaseSystem.loads s.now) (S.BaseSystem.top s.now) }
     ensures { RowFor (S.BaseSystem.bases s.now) (S.BaseSystem.loads s.now) value result }
 {
     let mut set = 0;

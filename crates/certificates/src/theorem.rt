@@ -1,7 +1,6 @@
 // Which bases have a certificate.
 ghost use Rattle.std.specs.Prelude.{◌≡◌, List};
 ghost use Rattle.bases.specs.Exchange.{Same};
-ghost use Rattle.bases.specs.Says.{Stands};
 ghost use Rattle.grades.specs.Grades.{whole};
 ghost use Rattle.optima.specs.Steps.{LevelBy};
 ghost use Rattle.certificates.specs.declared.row.CertRow.{CertRow};
@@ -13,7 +12,6 @@ use bases::BaseSystem;
 
 // A table that passes exists exactly where the standing base is level by whole loads: one of 64 rows has room for it.
 pub fn a_table_passes_exactly_when_level<S: BaseSystem>(s: &S)
-    requires { Stands (S.BaseSystem.bases s.now) (S.BaseSystem.loads s.now) (S.BaseSystem.top s.now) }
     ensures shows { (rows : List CertRow) → Accepts (S.BaseSystem.bases s.now) (S.BaseSystem.loads s.now) rows → LevelBy (S.BaseSystem.bases s.now) whole (S.BaseSystem.loads s.now) }
     ensures exists { LevelBy (S.BaseSystem.bases s.now) whole (S.BaseSystem.loads s.now) → (rows : List CertRow) × Accepts (S.BaseSystem.bases s.now) (S.BaseSystem.loads s.now) rows }
 {

@@ -1,6 +1,5 @@
 // The different loads of the seats, from the highest down.
 ghost use Rattle.std.specs.Prelude.{◌≡◌};
-ghost use Rattle.bases.specs.Says.{Stands};
 ghost use Rattle.certificates.specs.Loads.{NextLoad, different_loads};
 
 use bases::{BaseSystem, standing_load};
@@ -10,7 +9,6 @@ pub const BEYOND: u32 = 1_000_000;
 
 // The largest load below a bound; 0 where there is none.
 pub fn next_value<S: BaseSystem>(s: &S, bound: u32) -> u32
-    requires { Stands (S.BaseSystem.bases s.now) (S.BaseSystem.loads s.now) (S.BaseSystem.top s.now) }
     ensures { NextLoad (S.BaseSystem.loads s.now) bound result }
 {
     let mut best = 0;
@@ -25,7 +23,6 @@ pub fn next_value<S: BaseSystem>(s: &S, bound: u32) -> u32
 
 // How many different positive loads there are.
 pub fn count_values<S: BaseSystem>(s: &S) -> usize
-    requires { Stands (S.BaseSystem.bases s.now) (S.BaseSystem.loads s.now) (S.BaseSystem.top s.now) }
     ensures { result ≡ different_loads (S.BaseSystem.loads s.now) }
 {
     let mut count = 0;

@@ -9,6 +9,6 @@ pub returns : goal.returns
 returns g c i j member r =
     let b = g.S.BaseSystem in
     let s = c.args.s.now in
-    let w = g.met.S.BaseSystem.width s (b.loads s) c.requires.0 in
+    let w = g.met.S.BaseSystem.width s (b.loads s) (g.met.S.BaseSystem.stands s).0 in
     let seat = seat_of (b.loads s) i r.gives in
     c.loop-i.invariant i j (omega (arith, c.count-i-end.ensures)) member r

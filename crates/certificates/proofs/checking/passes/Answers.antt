@@ -6,7 +6,7 @@ use Rattle.certificates.proofs.checking.passes.Goals as goal
 pub returns-then-not-within : goal.returns-then-not-within
 returns-then-not-within g c p =
     let s = c.args.s.now in
-    let w = g.met.S.BaseSystem.width s (g.S.BaseSystem.loads s) c.requires.0 in
+    let w = g.met.S.BaseSystem.width s (g.S.BaseSystem.loads s) (g.met.S.BaseSystem.stands s).0 in
     let few = (g.met.S.BaseSystem.few s).1 in
     c.if-not-within.ensures (λ j h. (c.first.ensures j).1 (let seat = p.seated j h in (omega (arith, c.count.ensures), omega arith)))
 
@@ -15,7 +15,7 @@ returns g c =
     let b = g.S.BaseSystem in
     let s = c.args.s.now in
     let x = b.loads s in
-    let w = g.met.S.BaseSystem.width s x c.requires.0 in
+    let w = g.met.S.BaseSystem.width s x (g.met.S.BaseSystem.stands s).0 in
     when_same c.closed.result (Closed (b.bases s) x c.args.set) (Passes (b.bases s) x c.args.value c.args.set)
     (λ shut. record {
       low = omega arith;

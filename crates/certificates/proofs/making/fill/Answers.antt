@@ -15,7 +15,7 @@ pub loop-value-init : goal.loop-value-init
 loop-value-init g c =
     let b = g.S.BaseSystem in
     let s = c.args.s.now in
-    let low : (i : ℕ) → get_or (b.loads s) i 0 < 1000000 = λ i. (let h = g.met.S.BaseSystem.high s (b.loads s) c.requires.stands.0 i in omega (arith, c.requires.stands.1)) in (
+    let low : (i : ℕ) → get_or (b.loads s) i 0 < 1000000 = λ i. (let h = g.met.S.BaseSystem.high s (b.loads s) (g.met.S.BaseSystem.stands s).0 i in omega (arith, (g.met.S.BaseSystem.stands s).1)) in (
       counting_start (b.loads s) 1000000 c.next_value-value.result low c.next_value-value.ensures,
       made_start (b.bases s) (b.loads s) 1000000 c.next_value-value.result c.args.table.now low c.next_value-value.ensures,
       refl {a = c.args.table.now},
@@ -24,7 +24,7 @@ loop-value-init g c =
 pub bounds-table-count : goal.bounds-table-count
 bounds-table-count g c =
     let room = counting_room (g.S.BaseSystem.loads c.args.s.now) c.loop-value.count c.loop-value.value c.loop-value-test.true c.loop-value.invariant.0 in
-    omega (arith, c.loop-value.auto.table, c.requires.room)
+    omega (arith, c.loop-value.auto.table, c.requires)
 
 pub loop-value-preserved : goal.loop-value-preserved
 loop-value-preserved g c =
@@ -35,7 +35,7 @@ loop-value-preserved g c =
     let next = c.next_value-value-in-loop-value.result in
     let room = counting_room (b.loads s) count value c.loop-value-test.true c.loop-value.invariant.0 in (
       counting_next (b.loads s) count value next c.loop-value-test.true c.loop-value.invariant.0 c.next_value-value-in-loop-value.ensures,
-      made_next (b.bases s) (b.loads s) value count next c.row_set.result c.loop-value.table c.loop-value.invariant.1 (omega (arith, c.loop-value.auto.table, c.requires.room))
+      made_next (b.bases s) (b.loads s) value count next c.row_set.result c.loop-value.table c.loop-value.invariant.1 (omega (arith, c.loop-value.auto.table, c.requires))
           c.loop-value-test.true (c.loop-value.invariant.0.here c.loop-value-test.true) c.row_set.ensures c.next_value-value-in-loop-value.ensures,
       beyond c.loop-value.table c.args.table.now count (record { value = value; set = c.row_set.result }) c.loop-value.invariant.2,
     )
@@ -50,7 +50,7 @@ returns g c =
     let many = counting_end (b.loads s) c.loop-value.count c.loop-value.value c.loop-value-test.false c.loop-value.invariant.0 in
     record {
       many = many;
-      room = omega (arith, c.loop-value.auto.table, c.requires.room);
-      made = made_end (b.bases s) (b.loads s) c.loop-value.value c.loop-value.count c.loop-value.table c.loop-value-test.false (omega (arith, c.loop-value.auto.table, c.requires.room)) c.loop-value.invariant.1;
+      room = omega (arith, c.loop-value.auto.table, c.requires);
+      made = made_end (b.bases s) (b.loads s) c.loop-value.value c.loop-value.count c.loop-value.table c.loop-value-test.false (omega (arith, c.loop-value.auto.table, c.requires)) c.loop-value.invariant.1;
       beyond = c.loop-value.invariant.2;
     }

@@ -28,5 +28,5 @@ pub returns : goal.returns
 returns g c =
     let b = g.S.BaseSystem in
     let s = c.args.s.now in
-    let w = g.met.S.BaseSystem.width s (b.loads s) c.requires.0 in
+    let w = g.met.S.BaseSystem.width s (b.loads s) (g.met.S.BaseSystem.stands s).0 in
     gather_all (b.bases s) (b.loads s) c.args.value c.loop-i.i c.loop-i.set (omega (arith, c.count-i-end.ensures)) c.loop-i.invariant

@@ -28,10 +28,10 @@ returns g c =
     let s = c.args.s.now in
     let x = b.loads s in
     let few = different_few x in
-    let w = laws.width s x c.requires.0 in
+    let w = laws.width s x (laws.stands s).0 in
     let n = (laws.few s).1 in
     record {
-      shows = accepts_level (b.bases s) (laws.exchange s) (b.seats s) (laws.width s) (laws.few s).1 (b.top s) c.requires.1 (laws.high s) x c.requires.0;
+      shows = accepts_level (b.bases s) (laws.exchange s) (b.seats s) (laws.width s) (laws.few s).1 (b.top s) (laws.stands s).1 (laws.high s) x (laws.stands s).0;
       exists = made (b.bases s) x (b.layer s) (replicate 64 blank) c.certify.new.table c.certify.result
           (let l = length-replicate 64 blank in omega arith) c.certify.ensures;
     }

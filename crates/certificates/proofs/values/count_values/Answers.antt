@@ -6,7 +6,7 @@ pub loop-value-init : goal.loop-value-init
 loop-value-init g c =
     let b = g.S.BaseSystem in
     let s = c.args.s.now in
-    counting_start (b.loads s) 1000000 c.next_value-value.result (λ i. let h = g.met.S.BaseSystem.high s (b.loads s) c.requires.0 i in omega (arith, c.requires.1)) c.next_value-value.ensures
+    counting_start (b.loads s) 1000000 c.next_value-value.result (λ i. let h = g.met.S.BaseSystem.high s (b.loads s) (g.met.S.BaseSystem.stands s).0 i in omega (arith, (g.met.S.BaseSystem.stands s).1)) c.next_value-value.ensures
 
 pub overflow_add-count : goal.overflow_add-count
 overflow_add-count g c =
@@ -14,7 +14,7 @@ overflow_add-count g c =
     let s = c.args.s.now in
     let room = counting_room (b.loads s) c.loop-value.count c.loop-value.value c.loop-value-test.true c.loop-value.invariant in
     let few = different_few (b.loads s) in
-    let w = g.met.S.BaseSystem.width s (b.loads s) c.requires.0 in
+    let w = g.met.S.BaseSystem.width s (b.loads s) (g.met.S.BaseSystem.stands s).0 in
     let n = (g.met.S.BaseSystem.few s).1 in
     omega arith
 

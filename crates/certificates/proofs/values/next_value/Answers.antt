@@ -6,7 +6,7 @@ use Rattle.certificates.proofs.values.next_value.Goals as goal
 pub returns : goal.returns
 returns g c =
     let x = g.S.BaseSystem.loads c.args.s.now in
-    let w = g.met.S.BaseSystem.width c.args.s.now (g.S.BaseSystem.loads c.args.s.now) c.requires.0 in
+    let w = g.met.S.BaseSystem.width c.args.s.now (g.S.BaseSystem.loads c.args.s.now) (g.met.S.BaseSystem.stands c.args.s.now).0 in
     record {
       lower = c.loop-i.invariant.0;
       is = c.loop-i.invariant.1;
