@@ -1,7 +1,8 @@
 -- A table that is accepted shows that a base is level by whole loads, and the certificate of a level base is accepted.
 use Rattle.std.proofs.Common.{◌≡◌, ℕ, ◌+◌, ◌<◌, ◌≤◌, ◌⊎◌, List, length, get_or, subst, inl, inr, ⊎_elim, arith, lt→ltb}
 use Rattle.std.proofs.lemmas.Bool.{cases_lt, cases_eq}
-use Rattle.bases.specs.Exchange.{Exchange, Reaches}
+use Rattle.bases.specs.Exchange.{Reaches}
+use Rattle.bases.specs.Family.{Family}
 use Rattle.bases.proofs.Moves.{seat_of}
 use Rattle.bases.proofs.Toward.{reach_joins}
 use Rattle.grades.specs.Grades.{whole}
@@ -13,12 +14,11 @@ use Rattle.optima.proofs.Heaviest.{level_heaviest}
 use Rattle.certificates.specs.declared.row.CertRow.{CertRow}
 use Rattle.certificates.specs.Tables.{row_at, Passes, Accepts, RowFor, Certifies}
 
-module _ (B : List ℕ → Type 0) (ex : Exchange B) (n : ℕ) (width : (x : List ℕ) → B x → length x ≡ n) (few : n ≤ 64)
-    (top : ℕ) (low : top ≤ 999999) (high : (x : List ℕ) → B x → (i : ℕ) → get_or x i 0 ≤ top) (x : List ℕ) (hx : B x) where
+module _ {B : List ℕ → Type 0} {n top : ℕ} (family : Family B n top) (x : List ℕ) (hx : B x) where
   -- a step would lead out of the set of the row for the donor's load
   pub accepts_level : (rows : List CertRow) → Accepts B x rows → LevelBy B whole x
   accepts_level rows a i j step =
-      let wide = step_wide B ex n width few top low high whole whole_grades whole_by_whole x hx i j step in
+      let wide = step_wide family whole whole_grades whole_by_whole x hx i j step in
       let seat = seat_of x i step.reach.gives in
       let row = a.covers i seat step.reach.gives in
       let p = a.passes row.0 row.1 in
@@ -29,7 +29,7 @@ module _ (B : List ℕ → Type 0) (ex : Exchange B) (n : ℕ) (width : (x : Lis
 
   -- and so its heaviest loads are the least
   pub accepts_heaviest : (rows : List CertRow) → Accepts B x rows → (k : ℕ) (y : List ℕ) → B y → heaviest k x ≤ heaviest k y
-  accepts_heaviest rows a k y hy = level_heaviest B ex n width few top low high whole whole_grades whole_by_whole x hx (accepts_level rows a) k y hy
+  accepts_heaviest rows a k y hy = level_heaviest family whole whole_grades whole_by_whole x hx (accepts_level rows a) k y hy
 
   module _ (level : LevelBy B whole x) where
     -- a level base has no step
@@ -60,7 +60,7 @@ module _ (B : List ℕ → Type 0) (ex : Exchange B) (n : ℕ) (width : (x : Lis
         closed i j r (inl p) = inr (i, p.1, r)
         closed i j r (inr q) =
             ⊎_elim (λ (e : q.0 ≡ j). inl (r.takes, subst (λ (k : ℕ). v ≤ get_or x k 0) e q.1))
-            (λ ne. inr (q.0, q.1, reach_joins B ex n width x hx q.0 i j ne q.2 r)) (cases_eq q.0 j)
+            (λ ne. inr (q.0, q.1, reach_joins B family.exchange n family.width x hx q.0 i j ne q.2 r)) (cases_eq q.0 j)
 
     -- the certificate of a level base is accepted
     pub certifies_accepted : (rows : List CertRow) → Certifies B x rows → Accepts B x rows
@@ -70,6 +70,6 @@ module _ (B : List ℕ → Type 0) (ex : Exchange B) (n : ℕ) (width : (x : Lis
           let l = c.loads k h in
           let pos = l.0 in
           let is = l.1.1 in
-          let t = high x hx l.1.0 in
+          let t = family.high x hx l.1.0 in
           level_passes (row_at rows k).value (row_at rows k).set (omega arith) (omega arith) (c.sets k h);
     }

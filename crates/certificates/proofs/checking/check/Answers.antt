@@ -12,8 +12,8 @@ returns-then-not-all_covered g c =
     let rows = c.args.rows.now in
     record {
       answers = λ a. c.if-not-all_covered.ensures a.covers;
-      levels = accepts_level (b.bases s) (laws.exchange s) (b.seats s) (laws.width s) (laws.few s).1 (b.top s) (laws.stands s).1 (laws.high s) x (laws.stands s).0 rows;
-      heaviest_least = accepts_heaviest (b.bases s) (laws.exchange s) (b.seats s) (laws.width s) (laws.few s).1 (b.top s) (laws.stands s).1 (laws.high s) x (laws.stands s).0 rows;
+      levels = accepts_level (laws.family s) x (laws.stands s).0 rows;
+      heaviest_least = accepts_heaviest (laws.family s) x (laws.stands s).0 rows;
     }
 
 pub returns : goal.returns
@@ -26,6 +26,6 @@ returns g c =
     record {
       answers = when_same c.all_pass.result (AllPass (b.bases s) x rows) (Accepts (b.bases s) x rows)
           (λ p. record { covers = c.if-not-all_covered.ensures; passes = p }) (λ a. a.passes) c.all_pass.ensures;
-      levels = accepts_level (b.bases s) (laws.exchange s) (b.seats s) (laws.width s) (laws.few s).1 (b.top s) (laws.stands s).1 (laws.high s) x (laws.stands s).0 rows;
-      heaviest_least = accepts_heaviest (b.bases s) (laws.exchange s) (b.seats s) (laws.width s) (laws.few s).1 (b.top s) (laws.stands s).1 (laws.high s) x (laws.stands s).0 rows;
+      levels = accepts_level (laws.family s) x (laws.stands s).0 rows;
+      heaviest_least = accepts_heaviest (laws.family s) x (laws.stands s).0 rows;
     }

@@ -11,6 +11,6 @@ returns g c =
     let level = c.in_default.ensures in (
       c.fill.ensures,
       level,
-      certifies_accepted (b.bases s) (laws.exchange s) (b.seats s) (laws.width s) (laws.few s).1 (b.top s) (laws.stands s).1 (laws.high s) (b.loads s) (laws.stands s).0 level
+      certifies_accepted (laws.family s) (b.loads s) (laws.stands s).0 level
           (take c.fill.result c.fill.new.table) c.fill.ensures.made,
     )

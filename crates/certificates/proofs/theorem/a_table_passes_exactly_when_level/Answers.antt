@@ -31,7 +31,7 @@ returns g c =
     let w = laws.width s x (laws.stands s).0 in
     let n = (laws.few s).1 in
     record {
-      shows = accepts_level (b.bases s) (laws.exchange s) (b.seats s) (laws.width s) (laws.few s).1 (b.top s) (laws.stands s).1 (laws.high s) x (laws.stands s).0;
+      shows = accepts_level (laws.family s) x (laws.stands s).0;
       exists = made (b.bases s) x (b.layer s) (replicate 64 blank) c.certify.new.table c.certify.result
           (let l = length-replicate 64 blank in omega arith) c.certify.ensures;
     }
