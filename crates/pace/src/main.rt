@@ -6,7 +6,7 @@ use chains::Divided;
 use faults::Fault;
 use grades::Whole;
 use legs::{Leg, LegTable};
-use levels::{Answer, level};
+use levels::level;
 use std::io;
 use std::time::Instant;
 
@@ -42,8 +42,8 @@ fn pace(rt: &HostRuntime, name: &str, legs: Vec<Leg>) -> anyhow::Result<()> {
 fn report(rt: &HostRuntime, name: &str, table: LegTable, start: Instant) -> io::Result<()> {
     let mut legs = Divided::over(table);
     let steps = match level(&mut legs, &Whole, 999_999) {
-        Ok(Answer::Level(steps)) => steps,
-        Ok(Answer::Spent) => 999_999,
+        Ok(Some(steps)) => steps,
+        Ok(None) => 999_999,
         Err(_) => 0,
     };
     let elapsed = start.elapsed(rt)?;

@@ -4,7 +4,7 @@ use chains::Divided;
 use faults::{Fault, Kind, Reason};
 use grades::Whole;
 use legs::{Leg, LegTable};
-use levels::{Answer, level};
+use levels::level;
 use std::test::Fail;
 
 #[test]
@@ -21,7 +21,7 @@ fn certified_when_level(rt: HostRuntime) -> Result<(), Fail> {
         certify(&legs, &mut table),
         Err(Fault::nowhere(Reason::NotLevel, Kind::Legs))
     );
-    assert_eq!(rt; level(&mut legs, &Whole, 9)?, Answer::Level(1));
+    assert_eq!(rt; level(&mut legs, &Whole, 9)?, Some(1));
     let mut short = [CertRow { value: 7, set: 7 }; 1];
     assert_eq!(rt;
         certify(&legs, &mut short),
@@ -44,7 +44,7 @@ fn other_tables(rt: HostRuntime) -> Result<(), Fail> {
     }]
     .to_vec(rt.alloc())?;
     let mut legs = Divided::over(LegTable::new(2, row)?);
-    assert_eq!(rt; level(&mut legs, &Whole, 9)?, Answer::Level(1));
+    assert_eq!(rt; level(&mut legs, &Whole, 9)?, Some(1));
     let two = CertRow {
         value: 2,
         set: 0b11,

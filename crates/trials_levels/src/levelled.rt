@@ -5,7 +5,7 @@ use chains::Divided;
 use faults::{Fault, Kind, Reason};
 use grades::{Shares, Whole};
 use legs::{Leg, LegTable};
-use levels::{Answer, level};
+use levels::level;
 use std::test::Fail;
 
 #[test]
@@ -24,14 +24,14 @@ fn through_a_chain_until_the_budget_is_spent(rt: HostRuntime) -> Result<(), Fail
     ]
     .to_vec(rt.alloc())?;
     let mut legs = Divided::over(LegTable::new(3, row)?);
-    assert_eq!(rt; level(&mut legs, &Whole, 0)?, Answer::Spent);
+    assert_eq!(rt; level(&mut legs, &Whole, 0)?, None);
     assert_eq!(rt; legs.load(0)?, 6);
-    assert_eq!(rt; level(&mut legs, &Whole, 1)?, Answer::Spent);
+    assert_eq!(rt; level(&mut legs, &Whole, 1)?, None);
     assert_eq!(rt; legs.load(2)?, 1);
-    assert_eq!(rt; level(&mut legs, &Whole, 2)?, Answer::Level(2));
+    assert_eq!(rt; level(&mut legs, &Whole, 2)?, Some(2));
     assert_eq!(rt; legs.load(0)?, 4);
     assert_eq!(rt; legs.load(2)?, 3);
-    assert_eq!(rt; level(&mut legs, &Whole, 0)?, Answer::Level(0));
+    assert_eq!(rt; level(&mut legs, &Whole, 0)?, Some(0));
     Ok(())
 }
 
@@ -48,7 +48,7 @@ fn limits_of_the_budget(rt: HostRuntime) -> Result<(), Fail> {
         level(&mut legs, &Whole, 1_000_000),
         Err(Fault::nowhere(Reason::BeyondLimits, Kind::Legs))
     );
-    assert_eq!(rt; level(&mut legs, &Whole, 999_999)?, Answer::Level(0));
+    assert_eq!(rt; level(&mut legs, &Whole, 999_999)?, Some(0));
     Ok(())
 }
 
@@ -64,7 +64,7 @@ fn by_shares_and_with_carried_turns(rt: HostRuntime) -> Result<(), Fail> {
     let mut shares = Shares::new(2);
     assert_eq!(rt; shares.weigh(0, 2), Ok(()));
     assert_eq!(rt; shares.weigh(1, 5), Ok(()));
-    assert_eq!(rt; level(&mut legs, &shares, 9)?, Answer::Level(2));
+    assert_eq!(rt; level(&mut legs, &shares, 9)?, Some(2));
     assert_eq!(rt; legs.load(1)?, 2);
     let four = [Leg {
         a: 0,
@@ -74,7 +74,7 @@ fn by_shares_and_with_carried_turns(rt: HostRuntime) -> Result<(), Fail> {
     .to_vec(rt.alloc())?;
     let mut pile = Carry::over(Divided::over(LegTable::new(2, four)?));
     assert_eq!(rt; pile.carry(1, 3), Ok(()));
-    assert_eq!(rt; level(&mut pile, &Whole, 9)?, Answer::Level(0));
+    assert_eq!(rt; level(&mut pile, &Whole, 9)?, Some(0));
     assert_eq!(rt; pile.load(0)?, 4);
     Ok(())
 }
