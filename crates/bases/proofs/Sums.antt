@@ -1,7 +1,9 @@
 -- Laws of sums over the numbers below a bound.
-use Rattle.std.proofs.Common.{◌≡◌, ℕ, zero, suc, ◌+◌, ◌*◌, ◌<◌, ◌≤◌, eqb, List, length, get_or, take, sum, sym, refl, ap, ◌∙◌, ap₂, ⊎_elim, mul-add, add-one, arith}
+use Rattle.std.proofs.Common.{◌≡◌, ℕ, zero, suc, ◌+◌, ◌*◌, ◌<◌, ◌≤◌, eqb, List, length, get_or, map, take, sum, sym, refl, ap, ◌∙◌, ap₂, ⊎_elim, mul-add, add-one, arith}
 use Rattle.std.proofs.lemmas.List.{take_all}
 use Rattle.std.proofs.lemmas.List.Sums.{sum_by_more}
+use Rattle.std.proofs.lemmas.List.FromFn.{length-map-range_with_len, get_or-map-range_with_len}
+use Rattle.std.specs.List.{range_with_len}
 use Rattle.std.proofs.lemmas.Bool.{cases_eq, cases_lt, cond-true, cond-false, eq-eqb, ne_eqb}
 use Rattle.bases.specs.Sums.{sum_to, unit}
 
@@ -75,3 +77,15 @@ sum_list x = sym (ap sum (take_all (length x) x (omega arith))) ∙ upto (length
     upto (suc n) h =
         ap (λ (m : ℕ). sum (take m x)) (sym (add-one n)) ∙ sum_by_more (λ y. y) x n 0 (omega arith)
         ∙ ap (λ (a : ℕ). a + get_or x n 0) (upto n (omega arith))
+
+-- the sum over the numbers below a bound, as a list
+pub sum_range : (n : ℕ) (f : ℕ → ℕ) → sum (map f (range_with_len 0 n)) ≡ sum_to n f
+sum_range n f =
+    let xs = map f (range_with_len 0 n) in
+    sum_list xs ∙ ap (λ (m : ℕ). sum_to m (λ k. get_or xs k 0)) (length-map-range_with_len f 0 n)
+    ∙ sum_same n (λ k. get_or xs k 0) f (λ k h. get_or-map-range_with_len f 0 n k k 0 h (omega arith))
+
+-- a sum of n terms, none above a bound
+pub sum_few : (n bound : ℕ) (f : ℕ → ℕ) → ((k : ℕ) → k < n → f k ≤ bound) → sum_to n f ≤ n * bound
+sum_few zero bound f h = omega arith
+sum_few (suc n) bound f h = let l = sum_few n bound f (λ k i. h k (omega arith)) in let m = h n (omega arith) in omega arith

@@ -23,11 +23,7 @@ pub fn standing_reach<S: BaseSystem>(s: &S, i: u8) -> u64
 pub fn total<S: BaseSystem>(s: &S) -> u32
     ensures { (x : List ℕ) → S.BaseSystem.bases s.now x → sum x ≡ result }
 {
-    let mut sum = 0;
-    for i in 0..s.count() {
-        sum += standing_load(s, i);
-    }
-    sum
+    (0..s.count()).map(|i| standing_load(s, i)).sum()
 }
 
 // Where i can give a unit to j, and j one to a third seat k, i can give one to k.

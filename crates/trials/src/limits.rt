@@ -7,10 +7,7 @@ use std::test::Fail;
 
 // The fault of a table with one leg, if it is refused.
 fn refused(heap: Global, seats: u8, leg: Leg) -> Result<Option<Fault>, AllocError> {
-    match LegTable::new(seats, [leg].to_vec(heap)?) {
-        Ok(_) => Ok(None),
-        Err(fault) => Ok(Some(fault)),
-    }
+    Ok(LegTable::new(seats, [leg].to_vec(heap)?).err())
 }
 
 // The fault of so many equal legs, if they are refused.
@@ -20,15 +17,11 @@ fn refused_many(heap: Global, count: usize) -> Result<Option<Fault>, AllocError>
         b: 1,
         passages: 1_000
     }; count]?;
-    match LegTable::new(2, legs) {
-        Ok(table) => {
-            if table.ceiling() != 256_000 {
-                return Ok(Some(Fault::nowhere(Reason::CeilingPassed, Kind::Legs)));
-            }
-            Ok(None)
-        }
-        Err(fault) => Ok(Some(fault)),
-    }
+    Ok(match LegTable::new(2, legs) {
+        Ok(table) if table.ceiling() == 256_000 => None,
+        Ok(_) => Some(Fault::nowhere(Reason::CeilingPassed, Kind::Legs)),
+        Err(fault) => Some(fault),
+    })
 }
 
 #[test]
