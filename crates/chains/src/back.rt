@@ -1,6 +1,7 @@
 // Relaying one unit along a shortest chain, from its last link to its first.
 ghost use Rattle.std.specs.Prelude.{◌≡◌, ℕ, ◌<◌, ◌≢◌};
 ghost use Rattle.seats.specs.Sets.{In};
+ghost use Rattle.items.specs.Fillings.{Kept};
 ghost use Rattle.chains.specs.Chains.{Distances, Passed};
 
 use crate::spread::Spread;
@@ -12,7 +13,7 @@ pub fn relay_back<D: Division>(division: &mut D, spread: &Spread, i: u8, j: u8) 
     requires reached { In j spread.now.seen }
     requires apart { j ≢ i }
     ensures passes { Passed (D.Division.shape division.old) (D.Division.amount division.old) (D.Division.amount division.new) i j result }
-    ensures keeps { (D.Division.shape division.new ≡ D.Division.shape division.old) × (D.Division.most division.new ≡ D.Division.most division.old) × (D.Division.sort division.new ≡ D.Division.sort division.old) }
+    ensures keeps { Kept D.Division.shape D.Division.most D.Division.sort division.old division.new }
 {
     let mut v = j;
     let mut count = 0;

@@ -3,7 +3,7 @@ ghost use Rattle.std.specs.Prelude.{◌≡◌, ℕ, List, slice_index, refl};
 ghost use Rattle.std.proofs.Common.{ap, ◌∙◌, sym, subst, ⊎_elim, arith, rules};
 ghost use Rattle.faults.specs.declared.Reason.TheVariants.{NoSuchBase};
 ghost use Rattle.faults.specs.Places.{fault_at};
-ghost use Rattle.items.specs.Fillings.{Divisions, loads_of, Shape};
+ghost use Rattle.items.specs.Fillings.{Divisions, Kept, loads_of, Shape};
 ghost use Rattle.chains.specs.Chains.{Shifted};
 ghost use Rattle.chains.specs.Exact.{divisions_width};
 ghost use Rattle.std.proofs.lemmas.Bool.{cases_lt};
@@ -53,7 +53,7 @@ impl<D: Division> BaseSystem for Divided<D> {
 
     ghost why = { λ s i j. fault_at NoSuchBase j (D.Division.sort s.division) };
 
-    ghost shifted = { λ a i j count b. Shifted (D.Division.shape a.division) (D.Division.amount a.division) (D.Division.amount b.division) i j count × (D.Division.shape b.division ≡ D.Division.shape a.division) × (D.Division.most b.division ≡ D.Division.most a.division) × (D.Division.sort b.division ≡ D.Division.sort a.division) };
+    ghost shifted = { λ a i j count b. Shifted (D.Division.shape a.division) (D.Division.amount a.division) (D.Division.amount b.division) i j count × Kept D.Division.shape D.Division.most D.Division.sort a.division b.division };
 
     ghost stands = { λ s.
         let d = D.Division in
@@ -73,13 +73,13 @@ impl<D: Division> BaseSystem for Divided<D> {
 
     ghost exchange = { λ s. divisions_exchange (D.Division.shape s.division) };
 
-    ghost moves = { λ a b i j count h. ap (λ (shape : Shape). loads_of shape (D.Division.amount b.division)) h.1 ∙ h.0.moves };
+    ghost moves = { λ a b i j count h. ap (λ (shape : Shape). loads_of shape (D.Division.amount b.division)) h.1.0 ∙ h.0.moves };
 
     ghost keeps = { λ a b i j count h. (
-      λ x. (subst (λ (shape : Shape). Divisions shape x) (sym h.1), subst (λ (shape : Shape). Divisions shape x) h.1),
-      ap (λ (shape : Shape). shape.seats) h.1,
-      h.2,
-      h.3,
+      λ x. (subst (λ (shape : Shape). Divisions shape x) (sym h.1.0), subst (λ (shape : Shape). Divisions shape x) h.1.0),
+      ap (λ (shape : Shape). shape.seats) h.1.0,
+      h.1.1,
+      h.1.2,
     ) };
 
     fn kind(&self) -> Kind {

@@ -2,6 +2,7 @@
 -- A turn is an item of which each licensed seat can have one; a leg is an item of which both ends can have all.
 use Rattle.std.specs.Prelude.{◌≡◌, ℕ, ◌+◌, ◌-◌, ◌*◌, ◌<◌, ◌≤◌, List, map}
 use Rattle.std.specs.List.{range_with_len}
+use Rattle.faults.specs.declared.Kind.{Kind}
 use Rattle.bases.specs.Sums.{sum_to, unit}
 
 -- how many seats and items there are, how much of item t seat s can have, and how much of item t is due
@@ -51,3 +52,7 @@ pub record Relayed (shape : Shape) (f g : ℕ → ℕ → ℕ) (u v : ℕ) : Typ
 -- how many units changed hands between two fillings
 abbrev pub changed : Shape → (ℕ → ℕ → ℕ) → (ℕ → ℕ → ℕ) → ℕ
 changed shape f g = sum_to shape.items (λ t. sum_to shape.seats (λ s. g t s - f t s))
+
+-- nothing of a store but its division changed from a to b: neither the shape nor the number that no load exceeds nor the sort
+abbrev pub Kept : {D : Type 0} → (D → Shape) → (D → ℕ) → (D → Kind) → D → D → Type 0
+Kept shape most sort a b = (shape b ≡ shape a) × (most b ≡ most a) × (sort b ≡ sort a)

@@ -2,7 +2,7 @@
 ghost use Rattle.std.specs.Prelude.{◌≡◌, ℕ, ◌<◌, ◌≤◌, MatchBool, slice_index};
 ghost use Rattle.faults.specs.declared.Kind.{Kind};
 ghost use Rattle.seats.specs.Sets.{In, Exactly};
-ghost use Rattle.items.specs.Fillings.{Shape, Fills, Link, Relayed, load_of, loads_of};
+ghost use Rattle.items.specs.Fillings.{Shape, Fills, Link, Relayed, Kept, load_of, loads_of};
 
 use faults::Kind;
 
@@ -40,7 +40,7 @@ pub trait Division {
     // moves one unit of one item from u to v; false, and nothing is moved, where u does not link to v
     fn relay(&mut self, u: u8, v: u8) -> bool
         ensures moves { MatchBool result (Relayed (shape self.old) (amount self.old) (amount self.new) u v) ((Link (shape self.old) (amount self.old) u v → ⊥) × (self.new ≡ self.old)) }
-        ensures keeps { (shape self.new ≡ shape self.old) × (most self.new ≡ most self.old) × (sort self.new ≡ sort self.old) };
+        ensures keeps { Kept shape most sort self.old self.new };
 
     ghost few: { (d : Self) → (1 ≤ (shape d).seats) × ((shape d).seats ≤ 64) };
 

@@ -51,5 +51,5 @@ returns g c =
       reach,
       passed.some,
       (let short = passed.short in omega arith),
-      (shifted_by (d.shape store) (d.amount store) i j (d.amount after) c.relay_back.result reach passed, c.relay_back.ensures.keeps.0, c.relay_back.ensures.keeps.1, c.relay_back.ensures.keeps.2),
+      (shifted_by (d.shape store) (d.amount store) i j (d.amount after) c.relay_back.result reach passed, c.relay_back.ensures.keeps),
     )
