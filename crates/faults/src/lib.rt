@@ -76,40 +76,37 @@ impl Reason {
 }
 
 impl Fault {
+    // A fault of the top layer: its depth is 0.
+    fn of_top(reason: Reason, place: Place, kind: Kind) -> Fault
+        ensures { result ≡ record { reason = reason; place = place; kind = kind; depth = 0 } }
+    {
+        Fault {
+            reason,
+            place,
+            kind,
+            depth: 0,
+        }
+    }
+
     // A fault of the top layer, at a seat.
     pub fn at_seat(reason: Reason, seat: u8, kind: Kind) -> Fault
         ensures { result ≡ fault_at reason seat kind }
     {
-        Fault {
-            reason,
-            place: Place::Seat(seat),
-            kind,
-            depth: 0,
-        }
+        Fault::of_top(reason, Place::Seat(seat), kind)
     }
 
     // A fault of the top layer, with no place.
     pub fn nowhere(reason: Reason, kind: Kind) -> Fault
         ensures { result ≡ fault_nowhere reason kind }
     {
-        Fault {
-            reason,
-            place: Place::None,
-            kind,
-            depth: 0,
-        }
+        Fault::of_top(reason, Place::None, kind)
     }
 
     // A fault of a page, at a line and a column.
     pub fn on_page(reason: Reason, line: u32, column: u32) -> Fault
         ensures { result ≡ fault_on_page reason line column }
     {
-        Fault {
-            reason,
-            place: Place::Column { line, column },
-            kind: Kind::Page,
-            depth: 0,
-        }
+        Fault::of_top(reason, Place::Column { line, column }, Kind::Page)
     }
 
     // The column, the seat or the entry; 0 where there is none.
