@@ -7,7 +7,7 @@ use Rattle.bases.proofs.Toward.{reach_joins}
 use Rattle.grades.specs.Grades.{whole}
 use Rattle.grades.specs.Numbers.{whole_grades, whole_by_whole}
 use Rattle.optima.specs.Steps.{LevelBy}
-use Rattle.optima.specs.Costs.{heaviest}
+use Rattle.optima.specs.Costs.{HeaviestLeast}
 use Rattle.optima.proofs.Squares.{step_wide}
 use Rattle.optima.proofs.Heaviest.{level_heaviest}
 use Rattle.certificates.specs.declared.row.CertRow.{CertRow}
@@ -28,8 +28,8 @@ module _ (B : List ℕ → Type 0) (ex : Exchange B) (n : ℕ) (width : (x : Lis
       omega arith
 
   -- and so its heaviest loads are the least
-  pub accepts_heaviest : (rows : List CertRow) → Accepts B x rows → (k : ℕ) (y : List ℕ) → B y → heaviest k x ≤ heaviest k y
-  accepts_heaviest rows a k y hy = level_heaviest B ex n width few top low high whole whole_grades whole_by_whole x hx (accepts_level rows a) k y hy
+  pub accepts_best : (rows : List CertRow) → Accepts B x rows → LevelBy B whole x × HeaviestLeast B x
+  accepts_best rows a = let level = accepts_level rows a in (level, λ k y hy. level_heaviest B ex n width few top low high whole whole_grades whole_by_whole x hx level k y hy)
 
   module _ (level : LevelBy B whole x) where
     -- a level base has no step
