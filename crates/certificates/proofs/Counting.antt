@@ -1,7 +1,9 @@
 -- Counting the different loads from the highest down.
-use Rattle.std.proofs.Common.{◌≡◌, ℕ, zero, suc, ◌+◌, ◌<◌, ◌≤◌, Bool, true, false, cond, not, ◌&&◌, ◌||◌, eqb, ltb, List, [], ◌∷◌, length, get_or, sym, refl, ap, ◌∙◌, ap₂, ⊎_elim, arith}
+use Rattle.std.proofs.Common.{◌≡◌, ℕ, zero, suc, ◌+◌, ◌<◌, ◌≤◌, Option, None, Some, MatchOption, Bool, true, false, cond, not, ◌&&◌, ◌||◌, eqb, ltb, List, [], ◌∷◌, length, get_or, sym, refl, ap, ◌∙◌, subst, ap₂, ⊎_elim, arith}
 use Rattle.std.proofs.lemmas.Bool.{cases_lt, cases_eq, cases_Bool, eqb-true, eq-eqb, lt-ltb, le-ltb, or_cases, or_left, or_right, both_ways}
-use Rattle.certificates.specs.Loads.{occurs, different_loads, NextLoad}
+use Rattle.std.specs.Iterator.{Drains, Yields}
+use Rattle.certificates.specs.Loads.{occurs, different_loads, Descends, WalksDown}
+use Rattle.certificates.specs.declared.values.Values.{Values}
 
 -- ---- loads that occur
 pub occurs_at : (v : ℕ) (x : List ℕ) → occurs v x ≡ true → (i : ℕ) × (get_or x i 0 ≡ v)
@@ -103,41 +105,34 @@ pub different_few : (x : List ℕ) → different_loads x ≤ length x
 different_few [] = omega arith
 different_few (load ∷ rest) = let a = at_most_one (ltb 0 load && not (occurs load rest)) in let b = different_few rest in omega arith
 
--- ---- `count` loads have been passed, and the next one is `value`, or there is none
-pub record Counting (x : List ℕ) (count value : ℕ) : Type 0 where
-  pub sums : count + different_below (value + 1) x ≡ different_loads x
-  pub here : 0 < value → (i : ℕ) × (get_or x i 0 ≡ value)
+-- ---- the walk down the loads
+-- each step passes one load, and where no load is left none is below
+pub below_step : (x : List ℕ) (bound : ℕ) (r : Option ℕ) (after : ℕ) → 0 < bound → Descends x bound r after
+    → MatchOption r (different_below bound x ≡ 0) (λ _. (different_below bound x ≡ different_below after x + 1) × (0 < after))
+below_step x bound None after pos d =
+    below_gap x 1 bound pos (λ i a lt. let m = d.0.most i lt in omega arith) ∙ below_one x
+below_step x bound (Some load) after pos d =
+    let i = d.1.is d.0 in
+    let lt = d.1.lower d.0 in
+    let passed = below_gap x (load + 1) bound (omega arith) (λ i a lt. let m = d.1.most i lt in omega arith) in
+    let once = below_load x load i.0 d.0 i.1 in
+    let last = ap (λ b. different_below b x) d.2 in
+    (omega arith, (let e = d.2 in let p = d.0 in omega arith))
 
-module _ (x : List ℕ) where
-  -- the next load is lower
-  pub falls_on : (bound r : ℕ) → 0 < bound → NextLoad x bound r → r < bound
-  falls_on bound r pos next = ⊎_elim (λ p. next.lower p) (λ (none : r ≤ 0). omega arith) (cases_lt 0 r)
-
-  gap : (bound r : ℕ) → 0 < bound → NextLoad x bound r → different_below bound x ≡ different_below (r + 1) x
-  gap bound r pos next = below_gap x (r + 1) bound (let l = falls_on bound r pos next in omega arith) (λ i a b. let m = next.most i b in omega arith)
-
-  pub counting_start : (bound r : ℕ) → ((i : ℕ) → get_or x i 0 < bound) → NextLoad x bound r → Counting x 0 r
-  counting_start bound r low next = let a = below_all x bound low in let b = gap bound r (let l = low 0 in omega arith) next in record { sums = omega arith; here = next.is }
-
-  pub counting_next : (count value r : ℕ) → 0 < value → Counting x count value → NextLoad x value r → Counting x (count + 1) r
-  counting_next count value r pos c next =
-      let i = c.here pos in
-      let a = below_load x value i.0 pos i.1 in
-      let b = gap value r pos next in
-      let s = c.sums in
-      record { sums = omega arith; here = next.is }
-
-  pub counting_room : (count value : ℕ) → 0 < value → Counting x count value → count < different_loads x
-  counting_room count value pos c =
-      let i = c.here pos in
-      let a = below_load x value i.0 pos i.1 in
-      let s = c.sums in
+-- a walk down the loads below a bound passes as many as there are
+module _ {S : Type 0} (loads : S → List ℕ) where
+  walked : (xs : List ℕ) (v t u : Values S) → 0 < v.bound → Yields (WalksDown loads) v xs t → WalksDown loads t None u → length xs ≡ different_below v.bound (loads v.system.now)
+  walked [] v t u pos y l =
+      sym (below_step (loads v.system.now) v.bound None u.bound pos (subst (λ z. WalksDown loads z None u) (sym y) l).1)
+  walked (value ∷ xs) v t u pos y l =
+      let step = below_step (loads v.system.now) v.bound (Some value) y.0.bound pos y.1.1 in
+      let rest = walked xs y.0 t u step.1 y.2 l in
+      let same = ap (λ s. different_below y.0.bound (loads s)) y.1.0 in
+      let e = step.0 in
       omega arith
 
-  pub counting_end : (count value : ℕ) → value ≤ 0 → Counting x count value → count ≡ different_loads x
-  counting_end count value none c =
-      let e : value ≡ 0 = omega arith in
-      let z = ap (λ (v : ℕ). different_below (v + 1) x) e in
-      let o = below_one x in
-      let s = c.sums in
-      omega arith
+  -- from above all loads it passes all of them
+  pub walked_all : (v : Values S) (n : ℕ) → ((i : ℕ) → get_or (loads v.system.now) i 0 < v.bound) → (xs : List ℕ) × Drains (WalksDown loads) v xs × (n ≡ length xs)
+      → n ≡ different_loads (loads v.system.now)
+  walked_all v n high ran =
+      ran.2 ∙ walked ran.0 v ran.1.1.0 ran.1.0 (let h = high 0 in omega arith) ran.1.1.1 ran.1.1.2 ∙ below_all (loads v.system.now) v.bound high

@@ -1,63 +1,107 @@
 -- Gathering the set of a row, seat by seat.
-use Rattle.std.proofs.Common.{◌≡◌, ℕ, ◌+◌, ◌<◌, ◌≤◌, ◌⊎◌, List, length, get_or, sym, subst, inl, inr, ⊎_elim, arith}
-use Rattle.std.proofs.lemmas.Bool.{cases_lt}
+use Rattle.std.proofs.Common.{◌≡◌, ℕ, zero, suc, ◌+◌, ◌<◌, ◌≤◌, leb, ◌⊎◌, Option, List, [], ◌∷◌, ◌++◌, filter, length, get_or, refl, sym, subst, inl, inr, ⊎_elim, arith}
+use Rattle.std.proofs.lemmas.Bool.{cases_eq, cases_lt, cond_both, leb-true, leb-false}
+use Rattle.std.proofs.lemmas.Fn.{fold_over}
+use Rattle.std.proofs.lemmas.Iterator.{YieldsList}
+use Rattle.std.specs.Fn.{Called}
+use Rattle.std.specs.Iterator.{Drains}
+use Rattle.std.specs.List.{range_with_len, FoldsTo}
+use denote.Param.Members.{Mut}
 use Rattle.seats.specs.Sets.{In, Exactly, Inserted, Joined}
 use Rattle.seats.proofs.Members.{in_none}
 use Rattle.bases.specs.Exchange.{Reaches}
 use Rattle.bases.proofs.Moves.{seat_of}
 use Rattle.certificates.specs.Tables.{RowFor}
 
--- j is one of the first m seats with load v or more, or in the reach of one of them
-abbrev pub Gathered : (List ℕ → Type 0) → List ℕ → ℕ → ℕ → ℕ → Type 0
-Gathered B x v m j = ((j < m) × (v ≤ get_or x j 0)) ⊎ ((i : ℕ) × (i < m) × (v ≤ get_or x i 0) × Reaches B x i j)
-
 module _ (B : List ℕ → Type 0) (x : List ℕ) (v : ℕ) where
-  pub gather_none : (j : ℕ) → Exactly (In j 0) (Gathered B x v 0 j)
-  gather_none j = (λ h. absurd (in_none j h), λ g. absurd (⊎_elim (λ p. let l = p.0 in omega arith) (λ r. let l = r.1 in omega arith) g))
+  -- seat i brings itself, and the seats in its reach
+  abbrev pub Brings : ℕ → ℕ → Type 0
+  Brings i j = ((j ≡ i) × (j < 64)) ⊎ Reaches B x i j
 
-  -- what was gathered stays
-  still : (m j : ℕ) → Gathered B x v m j → Gathered B x v (m + 1) j
-  still m j (inl p) = inl (let l = p.0 in omega arith, p.1)
-  still m j (inr r) = inr (r.0, (let l = r.1 in omega arith), r.2, r.3)
+  -- r is the set with what seat i brings
+  abbrev pub Step : ℕ → ℕ → ℕ → Type 0
+  Step set i r = (w : ℕ) × (reach : ℕ) × Joined w reach r × Inserted set i w × ((j : ℕ) → Exactly (In j reach) (Reaches B x i j))
 
-  -- what is new comes by seat m
-  by_last : (m j : ℕ) → Gathered B x v (m + 1) j → Gathered B x v m j ⊎ ((v ≤ get_or x m 0) × ((j ≡ m) ⊎ Reaches B x m j))
-  by_last m j (inl p) =
-      ⊎_elim (λ lt. inl (inl (lt, p.1)))
-      (λ (ge : m ≤ j). let e : j ≡ m = (let l = p.0 in omega arith) in inr (subst (λ (k : ℕ). v ≤ get_or x k 0) e p.1, inl e)) (cases_lt j m)
-  by_last m j (inr r) =
-      ⊎_elim (λ lt. inl (inr (r.0, lt, r.2, r.3)))
-      (λ (ge : m ≤ r.0). let e : r.0 ≡ m = (let l = r.1 in omega arith) in
-      inr (subst (λ (k : ℕ). v ≤ get_or x k 0) e r.2, inr (subst (λ (k : ℕ). Reaches B x k j) e r.3))) (cases_lt r.0 m)
+  inserted : (set i w : ℕ) → Inserted set i w → (j : ℕ) → Exactly (In j w) (In j set ⊎ ((j ≡ i) × (j < 64)))
+  inserted set i w ins j =
+      ⊎_elim
+      (λ (lt : i < 64). (
+        λ m. ⊎_elim inl (λ (e : j ≡ i). inr (e, omega arith)) ((ins.members lt j).0 m),
+        λ p. (ins.members lt j).1 (⊎_elim inl (λ q. inr q.0) p),
+      ))
+      (λ (ge : 64 ≤ i). (
+        λ m. inl (subst (In j) (ins.beyond ge) m),
+        λ p. ⊎_elim (λ m. subst (In j) (sym (ins.beyond ge)) m) (λ q. absurd (let e = q.0 in let lt = q.1 in omega arith)) p,
+      )) (cases_lt i 64)
 
-  pub gather_skip : (m set : ℕ) → get_or x m 0 < v → ((j : ℕ) → Exactly (In j set) (Gathered B x v m j)) → (j : ℕ) → Exactly (In j set) (Gathered B x v (m + 1) j)
-  gather_skip m set low so j = (
-    λ h. still m j ((so j).0 h),
-    λ g. ⊎_elim (λ old. (so j).1 old) (λ new. absurd (let l = new.0 in omega arith)) (by_last m j g),
+  brought : (set i r : ℕ) → Step set i r → (j : ℕ) → Exactly (In j r) (In j set ⊎ Brings i j)
+  brought set i r st j = (
+    λ m. ⊎_elim (λ a. ⊎_elim inl (λ p. inr (inl p)) ((inserted set i st.0 st.3 j).0 a)) (λ b. inr (inr ((st.4 j).0 b))) ((st.2 j).0 m),
+    λ p. (st.2 j).1 (⊎_elim (λ m. inl ((inserted set i st.0 st.3 j).1 (inl m))) (λ q. ⊎_elim (λ e. inl ((inserted set i st.0 st.3 j).1 (inr e))) (λ r. inr ((st.4 j).1 r)) q) p),
   )
 
-  pub gather_more : (m set w reach u : ℕ) → m < 64 → v ≤ get_or x m 0 → Inserted set m w → Joined w reach u → ((j : ℕ) → Exactly (In j reach) (Reaches B x m j))
-      → ((j : ℕ) → Exactly (In j set) (Gathered B x v m j)) → (j : ℕ) → Exactly (In j u) (Gathered B x v (m + 1) j)
-  gather_more m set w reach u small high inserted joined exact so j = (into, back)
+  -- one of the seats brings j
+  abbrev Some_brings : List ℕ → ℕ → Type 0
+  Some_brings [] j = ⊥
+  Some_brings (i ∷ seats) j = Brings i j ⊎ Some_brings seats j
+
+  with_last : (seats : List ℕ) (i j : ℕ) → Exactly (Some_brings (seats ++ i ∷ []) j) (Some_brings seats j ⊎ Brings i j)
+  with_last [] i j = (λ s. ⊎_elim inr (λ no. absurd no) s, λ s. ⊎_elim (λ no. absurd no) inl s)
+  with_last (k ∷ seats) i j =
+      let rest = with_last seats i j in (
+        λ s. ⊎_elim (λ b. inl (inl b)) (λ t. ⊎_elim (λ u. inl (inr u)) inr (rest.0 t)) s,
+        λ s. ⊎_elim (λ t. ⊎_elim inl (λ u. inr (rest.1 (inl u))) t) (λ b. inr (rest.1 (inr b))) s,
+      )
+
+  -- the set holds what the seats bring
+  abbrev Holds : List ℕ → ℕ → Type 0
+  Holds seats set = (j : ℕ) → Exactly (In j set) (Some_brings seats j)
+
+  holds_more : (seats : List ℕ) (set i r : ℕ) → Holds seats set → Step set i r → Holds (seats ++ i ∷ []) r
+  holds_more seats set i r h st j =
+      let here = brought set i r st j in
+      let last = with_last seats i j in
+      (λ m. last.1 (⊎_elim (λ a. inl ((h j).0 a)) inr (here.0 m)), λ s. here.1 (⊎_elim (λ t. inl ((h j).1 t)) inr (last.0 s)))
+
+  -- the seats from a on, m in number, that have load v or more
+  abbrev pub high : ℕ → ℕ → List ℕ
+  high a m = filter (λ i. leb v (get_or x i 0)) (range_with_len a m)
+
+  abbrev High_brings : ℕ → ℕ → ℕ → Type 0
+  High_brings a m j = (i : ℕ) × (a ≤ i) × (i < a + m) × (v ≤ get_or x i 0) × Brings i j
+
+  high_brings : (m a j : ℕ) → Exactly (Some_brings (high a m) j) (High_brings a m j)
+  high_brings zero a j = (λ no. absurd no, λ h. absurd (let l = h.1 in let u = h.2 in omega arith))
+  high_brings (suc m) a j =
+      let rest = high_brings m (a + 1) j in
+      let up : High_brings (a + 1) m j → High_brings a (suc m) j = λ h. (h.0, (let l = h.1 in omega arith), (let u = h.2 in omega arith), h.3, h.4) in
+      let down : (h : High_brings a (suc m) j) → (h.0 ≡ a) ⊎ High_brings (a + 1) m j = λ h. ⊎_elim inl (λ ne. inr (h.0, (let l = h.1 in omega arith), (let u = h.2 in omega arith), h.3, h.4)) (cases_eq h.0 a) in
+      cond_both (leb v (get_or x a 0)) (a ∷ high (a + 1) m) (high (a + 1) m) (λ seats. Exactly (Some_brings seats j) (High_brings a (suc m) j))
+      (λ e. (
+        λ s. ⊎_elim (λ b. (a, omega arith, omega arith, leb-true v (get_or x a 0) e, b)) (λ t. up (rest.0 t)) s,
+        λ h. ⊎_elim (λ same. inl (subst (λ i. Brings i j) same h.4)) (λ t. inr (rest.1 t)) (down h),
+      ))
+      (λ e. (
+        λ s. up (rest.0 s),
+        λ h. ⊎_elim (λ same. absurd (let low = leb-false v (get_or x a 0) e in let at_least = subst (λ i. v ≤ get_or x i 0) same h.3 in omega arith)) (λ t. rest.1 t) (down h),
+      ))
+
+  -- the seats with load v or more, and what they bring
+  all_brought : (n set : ℕ) → n ≡ length x → n ≤ 64 → Holds (high 0 n) set → RowFor B x v set
+  all_brought n set wide few h j = (λ m. into ((high_brings n 0 j).0 ((h j).0 m)), λ p. (h j).1 ((high_brings n 0 j).1 (back p)))
     where
-      into : In j u → Gathered B x v (m + 1) j
-      into h =
-          ⊎_elim
-          (λ a. ⊎_elim (λ old. still m j ((so j).0 old)) (λ (e : j ≡ m). inl (omega arith, subst (λ (k : ℕ). v ≤ get_or x k 0) (sym e) high)) ((inserted.members small j).0 a))
-          (λ b. inr (m, omega arith, high, (exact j).0 b)) ((joined j).0 h)
+      into : High_brings 0 n j → ((j < length x) × (v ≤ get_or x j 0)) ⊎ ((i : ℕ) × (v ≤ get_or x i 0) × Reaches B x i j)
+      into q = ⊎_elim (λ e. inl (let u = q.2 in let is = e.0 in (omega arith, subst (λ k. v ≤ get_or x k 0) (sym is) q.3))) (λ r. inr (q.0, q.3, r)) q.4
 
-      back : Gathered B x v (m + 1) j → In j u
-      back g =
-          ⊎_elim (λ old. (joined j).1 (inl ((inserted.members small j).1 (inl ((so j).1 old)))))
-          (λ new. ⊎_elim (λ e. (joined j).1 (inl ((inserted.members small j).1 (inr e)))) (λ r. (joined j).1 (inr ((exact j).1 r))) new.1) (by_last m j g)
+      back : ((j < length x) × (v ≤ get_or x j 0)) ⊎ ((i : ℕ) × (v ≤ get_or x i 0) × Reaches B x i j) → High_brings 0 n j
+      back p =
+          ⊎_elim (λ s. let lt = s.0 in (j, omega arith, omega arith, s.1, inl (refl, omega arith)))
+          (λ r. let lt = seat_of x r.0 r.2.gives in (r.0, omega arith, omega arith, r.1, inr r.2)) p
 
-  pub gather_all : (m set : ℕ) → m ≡ length x → ((j : ℕ) → Exactly (In j set) (Gathered B x v m j)) → RowFor B x v set
-  gather_all m set e so j = (λ h. into ((so j).0 h), λ g. (so j).1 (back g))
-    where
-      into : Gathered B x v m j → ((j < length x) × (v ≤ get_or x j 0)) ⊎ ((i : ℕ) × (v ≤ get_or x i 0) × Reaches B x i j)
-      into (inl p) = inl ((let l = p.0 in omega arith), p.1)
-      into (inr r) = inr (r.0, r.2, r.3)
-
-      back : ((j < length x) × (v ≤ get_or x j 0)) ⊎ ((i : ℕ) × (v ≤ get_or x i 0) × Reaches B x i j) → Gathered B x v m j
-      back (inl p) = inl ((let l = p.0 in omega arith), p.1)
-      back (inr r) = inr (r.0, (let l = seat_of x r.0 r.2.gives in omega arith), r.1, r.2)
+  pub gathered : {S F : Type 0} {steps : S → Option ℕ → S → Type 0} {g : Mut F (ℕ × (ℕ × Unit {0})) ℕ} {s : S} {f : F} (n r : ℕ)
+      → ((set i w : ℕ) (q : F) → Called g f (set, (i, tt)) w q → (q ≡ f) × Step set i w) → n ≡ length x → n ≤ 64 → YieldsList steps (λ i. i) s (high 0 n)
+      → (xs : List ℕ) × (q : F) × Drains steps s xs × FoldsTo {P = F × ℕ} (λ a i b. Called g a.0 (a.1, (i, tt)) b.1 b.0) (f, 0) xs (q, r) → RowFor B x v r
+  gathered {steps} {g} {s} {f} n r told wide few road ran =
+      all_brought n r wide few
+      (fold_over steps (λ i. i) g Holds f (λ seats set i w q h k. let t = told set i w q k in (holds_more seats set i w h t.1, t.0)) s (high 0 n) 0 r road.runs
+      (λ j. (λ m. absurd (in_none j m), λ no. absurd no)) ran)

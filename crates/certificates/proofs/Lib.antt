@@ -3,4 +3,5 @@ pub mod Certified
 pub mod Counting
 pub mod Filling
 pub mod Gathering
+pub mod Highest
 pub mod Lasting

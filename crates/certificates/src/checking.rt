@@ -7,91 +7,62 @@ ghost use Rattle.certificates.specs.Tables.{Accepts, AllPass, Closed, Covered, F
 
 use crate::row::CertRow;
 use bases::{BaseSystem, standing_load, standing_reach};
-use seats::{first, has, within};
-
-// The largest value of a row.
-const MOST_VALUE: u32 = 999_999;
+use limits::HIGHEST_LOAD;
+use seats::{first, has, members_of, within};
 
 // Whether some row has this value.
 fn has_value(rows: &[CertRow], value: u32) -> bool
     ensures { MatchBool result (HasValue rows.now value) (HasValue rows.now value → ⊥) }
 {
-    for row in rows {
-        if row.value == value {
-            return true;
-        }
-    }
-    false
+    rows.iter().any(|row| row.value == value)
 }
 
 // Whether each positive load has a row.
 fn all_covered<S: BaseSystem>(s: &S, rows: &[CertRow]) -> bool
     ensures { MatchBool result (Covered (S.BaseSystem.loads s.now) rows.now) (Covered (S.BaseSystem.loads s.now) rows.now → ⊥) }
 {
-    for i in 0..s.count() {
+    (0..s.count()).all(|i| {
         let load = standing_load(s, i);
-        if load > 0 && !has_value(rows, load) {
-            return false;
-        }
-    }
-    true
+        load == 0 || has_value(rows, load)
+    })
 }
 
-// Whether the set holds every seat with at least this load, and none with less than one below.
-fn fits<S: BaseSystem>(s: &S, value: u32, set: u64) -> bool
-    ensures { MatchBool result (Fits (S.BaseSystem.loads s.now) value set) (Fits (S.BaseSystem.loads s.now) value set → ⊥) }
+// Whether the row's set holds every seat with at least the row's value, and none with less than one below.
+fn fits<S: BaseSystem>(s: &S, row: CertRow) -> bool
+    ensures { MatchBool result (Fits (S.BaseSystem.loads s.now) row.value row.set) (Fits (S.BaseSystem.loads s.now) row.value row.set → ⊥) }
 {
-    for i in 0..s.count() {
+    (0..s.count()).all(|i| {
         let load = standing_load(s, i);
-        if has(set, i) {
-            if load + 1 < value {
-                return false;
-            }
-        } else if load >= value {
-            return false;
+        if has(row.set, i) {
+            load + 1 >= row.value
+        } else {
+            load < row.value
         }
-    }
-    true
+    })
 }
 
 // Whether the reach of each seat of the set lies in it.
 fn closed<S: BaseSystem>(s: &S, set: u64) -> bool
     ensures { MatchBool result (Closed (S.BaseSystem.bases s.now) (S.BaseSystem.loads s.now) set) (Closed (S.BaseSystem.bases s.now) (S.BaseSystem.loads s.now) set → ⊥) }
 {
-    for i in 0..s.count() {
-        if has(set, i) && !within(standing_reach(s, i), set) {
-            return false;
-        }
-    }
-    true
+    members_of(set).all(|i| within(standing_reach(s, i), set))
 }
 
 // Whether a row passes.
-fn passes<S: BaseSystem>(s: &S, value: u32, set: u64) -> bool
-    ensures { MatchBool result (Passes (S.BaseSystem.bases s.now) (S.BaseSystem.loads s.now) value set) (Passes (S.BaseSystem.bases s.now) (S.BaseSystem.loads s.now) value set → ⊥) }
+fn passes<S: BaseSystem>(s: &S, row: CertRow) -> bool
+    ensures { MatchBool result (Passes (S.BaseSystem.bases s.now) (S.BaseSystem.loads s.now) row.value row.set) (Passes (S.BaseSystem.bases s.now) (S.BaseSystem.loads s.now) row.value row.set → ⊥) }
 {
-    if value < 1 || value > MOST_VALUE {
-        return false;
-    }
-    if !within(set, first(s.count())) {
-        return false;
-    }
-    if !fits(s, value, set) {
-        return false;
-    }
-    closed(s, set)
+    (1..=HIGHEST_LOAD).contains(&row.value)
+        && within(row.set, first(s.count()))
+        && fits(s, row)
+        && closed(s, row.set)
 }
 
 // Whether each row passes.
 fn all_pass<S: BaseSystem>(s: &S, rows: &[CertRow]) -> bool
     ensures { MatchBool result (AllPass (S.BaseSystem.bases s.now) (S.BaseSystem.loads s.now) rows.now) (AllPass (S.BaseSystem.bases s.now) (S.BaseSystem.loads s.now) rows.now → ⊥) }
 {
-    for row in rows {
-        if !passes(s, row.value, row.set) {
-            return false;
-        }
-    }
-    true
+    rows.iter().all(|row| passes(s, *row))
 }
 
 // Whether each positive load has a row with its value, and each row passes. Where it says yes, the standing base is level by whole
@@ -101,8 +72,5 @@ pub fn check<S: BaseSystem>(s: &S, rows: &[CertRow]) -> bool
     ensures levels { Accepts (S.BaseSystem.bases s.now) (S.BaseSystem.loads s.now) rows.now → LevelBy (S.BaseSystem.bases s.now) whole (S.BaseSystem.loads s.now) }
     ensures heaviest_least { Accepts (S.BaseSystem.bases s.now) (S.BaseSystem.loads s.now) rows.now → HeaviestLeast (S.BaseSystem.bases s.now) (S.BaseSystem.loads s.now) }
 {
-    if !all_covered(s, rows) {
-        return false;
-    }
-    all_pass(s, rows)
+    all_covered(s, rows) && all_pass(s, rows)
 }

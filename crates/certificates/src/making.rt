@@ -5,28 +5,23 @@ ghost use Rattle.certificates.specs.Tables.{CertifySays, Filled};
 
 use crate::row::CertRow;
 use crate::sets::row_set;
-use crate::values::{BEYOND, count_values, next_value};
+use crate::values::{count_values, values_of};
 use bases::BaseSystem;
 use faults::{Fault, Reason};
 use grades::Whole;
 use steps::find_step;
 
-// Writes one row for each different positive load, the highest first, and answers how many.
-fn fill<S: BaseSystem>(s: &S, table: &mut [CertRow]) -> usize
+// Writes one row for each different positive load, the highest first.
+fn fill<S: BaseSystem>(s: &S, table: &mut [CertRow])
     requires { different_loads (S.BaseSystem.loads s.now) ≤ length table.old }
-    ensures { Filled (S.BaseSystem.bases s.now) (S.BaseSystem.loads s.now) table.old table.new result }
+    ensures { Filled (S.BaseSystem.bases s.now) (S.BaseSystem.loads s.now) table.old table.new (different_loads (S.BaseSystem.loads s.now)) }
 {
-    let mut count = 0;
-    let mut value = next_value(s, BEYOND);
-    while value > 0 {
-        table[count] = CertRow {
+    for (k, value) in values_of(s).enumerate() {
+        table[k] = CertRow {
             value,
             set: row_set(s, value),
         };
-        count += 1;
-        value = next_value(s, value);
     }
-    count
 }
 
 // Writes the rows which show that the standing base is level by whole loads, and answers how many. It is refused where the base is
@@ -34,11 +29,13 @@ fn fill<S: BaseSystem>(s: &S, table: &mut [CertRow]) -> usize
 pub fn certify<S: BaseSystem>(s: &S, table: &mut [CertRow]) -> Result<usize, Fault>
     ensures { CertifySays (S.BaseSystem.bases s.now) (S.BaseSystem.loads s.now) (S.BaseSystem.layer s.now) table.old table.new result }
 {
-    if let Some(_) = find_step(s, &Whole) {
+    if find_step(s, &Whole).is_some() {
         return Err(Fault::nowhere(Reason::NotLevel, s.kind()));
     }
-    if table.len() < count_values(s) {
+    let count = count_values(s);
+    if table.len() < count {
         return Err(Fault::nowhere(Reason::TooFewRows, s.kind()));
     }
-    Ok(fill(s, table))
+    fill(s, table);
+    Ok(count)
 }

@@ -8,11 +8,7 @@ use seats::{union, with};
 pub fn row_set<S: BaseSystem>(s: &S, value: u32) -> u64
     ensures { RowFor (S.BaseSystem.bases s.now) (S.BaseSystem.loads s.now) value result }
 {
-    let mut set = 0;
-    for i in 0..s.count() {
-        if standing_load(s, i) >= value {
-            set = union(with(set, i), standing_reach(s, i));
-        }
-    }
-    set
+    (0..s.count())
+        .filter(|i| standing_load(s, *i) >= value)
+        .fold(0, |set, i| union(with(set, i), standing_reach(s, i)))
 }

@@ -1,56 +1,63 @@
 -- The rows are made from the highest load down.
-use Rattle.std.proofs.Common.{◌≡◌, ℕ, ◌+◌, ◌<◌, List, get_or, drop, set, sym, refl, ap, ◌∙◌, arith}
-use Rattle.std.proofs.lemmas.List.{drop-set-lt, drop-drop}
-use Rattle.certificates.specs.declared.row.CertRow.{CertRow}
-use Rattle.certificates.proofs.Counting.{counting_start, counting_next, counting_room, counting_end, falls_on}
-use Rattle.certificates.proofs.Filling.{made_start, made_next, made_end}
+use Rattle.std.proofs.Common.{◌≡◌, ℕ, Option, None, Some, List, ap, ◌∙◌, subst, arith}
+use Rattle.std.specs.Iterator.Adapters.{enumerate_count, enumerate_source}
+use Rattle.certificates.specs.declared.values.Values.{Values}
+use Rattle.certificates.specs.Loads.{Descends, WalksDown}
+use Rattle.certificates.proofs.Filling.{walk_start, walk_room, walk_next, walk_end}
 use Rattle.certificates.proofs.making.fill.Goals as goal
 
--- what lies beyond one row more is as before
-beyond : (rows before : List CertRow) (count : ℕ) (row : CertRow) → drop count rows ≡ drop count before → drop (count + 1) (set rows count row) ≡ drop (count + 1) before
-beyond rows before count row same =
-    drop-set-lt (count + 1) rows count row (omega arith) ∙ sym (drop-drop 1 count rows) ∙ ap (λ (l : List CertRow). drop 1 l) same ∙ drop-drop 1 count before
+-- a step of the values of s is a step down the loads of s
+down : {S : Type 0} (loads : S → List ℕ) (s : S) (v t : Values S) (r : Option ℕ) → v.system.now ≡ s → WalksDown loads v r t → (t.system.now ≡ s) × Descends (loads s) v.bound r t.bound
+down loads s v t r is step = (step.0 ∙ is, subst (λ z. Descends (loads z) v.bound r t.bound) is step.1)
 
-pub loop-value-init : goal.loop-value-init
-loop-value-init g c =
+pub loop-k-init : goal.loop-k-init
+loop-k-init g c =
+    let b = g.S.BaseSystem in
+    let laws = g.met.S.BaseSystem in
+    let s = c.args.s.now in
+    let from : enumerate_source c.into_iter-k-iterator.result ≡ c.values_of.result = cc in
+    let bound = ap (λ v. v.bound) from in
+    record {
+      system = ap (λ v. v.system.now) from ∙ c.values_of.ensures.system;
+      walk = walk_start (b.bases s) (b.loads s) c.args.table.now _ _ (λ i. let high = laws.high s (b.loads s) (laws.stands s).0 i in omega (arith, (laws.stands s).1, c.values_of.ensures.all)) (cc);
+    }
+
+pub bounds-table-k : goal.bounds-table-k
+bounds-table-k g c =
     let b = g.S.BaseSystem in
     let s = c.args.s.now in
-    let low : (i : ℕ) → get_or (b.loads s) i 0 < 1000000 = λ i. (let h = g.met.S.BaseSystem.high s (b.loads s) (g.met.S.BaseSystem.stands s).0 i in omega (arith, (g.met.S.BaseSystem.stands s).1)) in (
-      counting_start (b.loads s) 1000000 c.next_value-value.result low c.next_value-value.ensures,
-      made_start (b.bases s) (b.loads s) 1000000 c.next_value-value.result c.args.table.now low c.next_value-value.ensures,
-      refl {a = c.args.table.now},
-    )
+    let v = enumerate_source c.loop-k.k-iterator in
+    let t = enumerate_source c.next.new.self in
+    let inv = c.loop-k.invariant in
+    let steps = c.in-Some.ensures.steps in
+    let d = down b.loads s v t (Some c.in-Some.value) inv.system steps.0 in
+    let room = walk_room (b.bases s) (b.loads s) c.args.table.now v.bound (enumerate_count c.loop-k.k-iterator) c.in-Some.value t.bound c.loop-k.table inv.walk d.1 in
+    let at = steps.1 in
+    omega (arith, c.loop-k.auto.table, c.requires)
 
-pub bounds-table-count : goal.bounds-table-count
-bounds-table-count g c =
-    let room = counting_room (g.S.BaseSystem.loads c.args.s.now) c.loop-value.count c.loop-value.value c.loop-value-test.true c.loop-value.invariant.0 in
-    omega (arith, c.loop-value.auto.table, c.requires)
-
-pub loop-value-preserved : goal.loop-value-preserved
-loop-value-preserved g c =
+pub loop-k-preserved : goal.loop-k-preserved
+loop-k-preserved g c =
     let b = g.S.BaseSystem in
     let s = c.args.s.now in
-    let count = c.loop-value.count in
-    let value = c.loop-value.value in
-    let next = c.next_value-value-in-loop-value.result in
-    let room = counting_room (b.loads s) count value c.loop-value-test.true c.loop-value.invariant.0 in (
-      counting_next (b.loads s) count value next c.loop-value-test.true c.loop-value.invariant.0 c.next_value-value-in-loop-value.ensures,
-      made_next (b.bases s) (b.loads s) value count next c.row_set.result c.loop-value.table c.loop-value.invariant.1 (omega (arith, c.loop-value.auto.table, c.requires))
-          c.loop-value-test.true (c.loop-value.invariant.0.here c.loop-value-test.true) c.row_set.ensures c.next_value-value-in-loop-value.ensures,
-      beyond c.loop-value.table c.args.table.now count (record { value = value; set = c.row_set.result }) c.loop-value.invariant.2,
-    )
-
-pub loop-value-smaller : goal.loop-value-smaller
-loop-value-smaller g c = falls_on (g.S.BaseSystem.loads c.args.s.now) c.loop-value.value c.next_value-value-in-loop-value.result c.loop-value-test.true c.next_value-value-in-loop-value.ensures
+    let v = enumerate_source c.loop-k.k-iterator in
+    let t = enumerate_source c.next.new.self in
+    let count = enumerate_count c.loop-k.k-iterator in
+    let inv = c.loop-k.invariant in
+    let steps = c.in-Some.ensures.steps in
+    let d = down b.loads s v t (Some c.in-Some.value) inv.system steps.0 in
+    let room = walk_room (b.bases s) (b.loads s) c.args.table.now v.bound count c.in-Some.value t.bound c.loop-k.table inv.walk d.1 in
+    record {
+      system = d.0;
+      walk = walk_next (b.bases s) (b.loads s) c.args.table.now v.bound count c.in-Some.k (enumerate_count c.next.new.self) c.in-Some.value t.bound c.row_set.result c.loop-k.table inv.walk
+          (omega (arith, c.loop-k.auto.table, c.requires)) steps.1 steps.2 d.1 c.row_set.ensures;
+    }
 
 pub returns : goal.returns
 returns g c =
     let b = g.S.BaseSystem in
     let s = c.args.s.now in
-    let many = counting_end (b.loads s) c.loop-value.count c.loop-value.value c.loop-value-test.false c.loop-value.invariant.0 in
-    record {
-      many = many;
-      room = omega (arith, c.loop-value.auto.table, c.requires);
-      made = made_end (b.bases s) (b.loads s) c.loop-value.value c.loop-value.count c.loop-value.table c.loop-value-test.false (omega (arith, c.loop-value.auto.table, c.requires)) c.loop-value.invariant.1;
-      beyond = c.loop-value.invariant.2;
-    }
+    let v = enumerate_source c.loop-k.k-iterator in
+    let t = enumerate_source c.next.new.self in
+    let inv = c.loop-k.invariant in
+    let d = down b.loads s v t None inv.system c.in-None.ensures.steps.0 in
+    walk_end (b.bases s) (b.loads s) c.args.table.now v.bound (enumerate_count c.loop-k.k-iterator) t.bound c.loop-k.table inv.walk (omega (arith, c.loop-k.auto.table, c.requires)) d.1

@@ -1,14 +1,11 @@
-use Rattle.std.proofs.Common.{◌≡◌, drop}
-use Rattle.certificates.proofs.Counting.{Counting}
-use Rattle.certificates.proofs.Filling.{Made}
+use Rattle.std.proofs.Common.{◌≡◌}
+use Rattle.std.specs.Iterator.Adapters.{enumerate_count, enumerate_source}
+use Rattle.certificates.proofs.Filling.{Walk}
 use Rattle.certificates.proofs.making.fill.Given as goal
 
--- the rows so far, and those beyond as before
-abbrev pub invariant-loop-value : goal.invariant-loop-value
-invariant-loop-value g l =
+-- the values are the system's, and the rows so far are made for those passed
+abbrev pub invariant-loop-k : goal.invariant-loop-k
+invariant-loop-k g l =
     let b = g.S.BaseSystem in
-    Counting (b.loads l.s) l.count l.value × Made (b.bases l.s) (b.loads l.s) l.value l.count l.table
-    × (drop l.count l.table ≡ drop l.count l.initial.table)
-
-abbrev pub decreases-loop-value : goal.decreases-loop-value
-decreases-loop-value g l = l.value
+    let v = enumerate_source l.k-iterator in
+    record { system : v.system.now ≡ l.s; walk : Walk (b.bases l.s) (b.loads l.s) l.initial.table v.bound (enumerate_count l.k-iterator) l.table }
