@@ -2,7 +2,8 @@
 use Rattle.std.proofs.Common.{◌≡◌, ℕ, zero, suc, ◌+◌, ◌/◌, ◌%◌, ◌^◌, ◌<◌, ◌≤◌, ◌⊎◌, sym, refl, ap, ◌∙◌, inl, inr, ⊎_elim, le_of_eq, mod-lt, zero-lt-suc, arith, pow_pos}
 use lib.Count.{ones, ones_step}
 use Rattle.seats.specs.Sets.{In, Within, Exactly}
-use Rattle.seats.proofs.Digits.{digit_zero, digit_suc, half_lt, even_or_odd}
+use Rattle.std.proofs.lemmas.Nat.Bits.{bit_at_lowest, bit_at-suc}
+use Rattle.seats.proofs.Digits.{half_lt, even_or_odd}
 use Rattle.seats.proofs.Members.{in_none, in_positive, out_nought}
 
 -- no seat belongs to nought
@@ -12,12 +13,12 @@ ones_none = refl
 
 -- the halves of two sets, one within the other, stand likewise
 pub half_within : (a b : ℕ) → Within a b → Within (a / 2) (b / 2)
-half_within a b w i m = sym (digit_suc i b) ∙ w (suc i) (digit_suc i a ∙ m)
+half_within a b w i m = sym (bit_at-suc b i) ∙ w (suc i) (bit_at-suc a i ∙ m)
 
 -- and so do the lowest digits
 pub low_within : (a b : ℕ) → Within a b → a % 2 ≤ b % 2
 low_within a b w =
-    ⊎_elim (λ z. omega arith) (λ o. let m = sym (digit_zero b) ∙ w 0 (digit_zero a ∙ o) in omega arith) (even_or_odd a)
+    ⊎_elim (λ z. omega arith) (λ o. let m = sym (bit_at_lowest b) ∙ w 0 (bit_at_lowest a ∙ o) in omega arith) (even_or_odd a)
 
 -- a set within another has no more seats
 pub ones_within : (k a b : ℕ) → a < 2 ^ k → b < 2 ^ k → Within a b → ones a ≤ ones b
@@ -32,12 +33,12 @@ pub ones_inserted : (k a b i : ℕ) → a < 2 ^ k → b < 2 ^ k → (In i a → 
 ones_inserted zero a b i ha hb out m w = absurd (omega (arith, in_positive i b m))
 ones_inserted (suc k) a b zero ha hb out m w =
     let halves = ones_within k (a / 2) (b / 2) (half_lt k a ha) (half_lt k b hb) (half_within a b w) in
-    let low-a : a % 2 ≡ 0 = sym (digit_zero a) ∙ out_nought 0 a out in
-    let low-b : b % 2 ≡ 1 = sym (digit_zero b) ∙ m in
+    let low-a : a % 2 ≡ 0 = sym (bit_at_lowest a) ∙ out_nought 0 a out in
+    let low-b : b % 2 ≡ 1 = sym (bit_at_lowest b) ∙ m in
     omega (arith, ones_step a, ones_step b)
 ones_inserted (suc k) a b (suc i) ha hb out m w =
-    let out-half : In i (a / 2) → ⊥ = λ n. out (digit_suc i a ∙ n) in
-    let in-half : In i (b / 2) = sym (digit_suc i b) ∙ m in
+    let out-half : In i (a / 2) → ⊥ = λ n. out (bit_at-suc a i ∙ n) in
+    let in-half : In i (b / 2) = sym (bit_at-suc b i) ∙ m in
     let halves = ones_inserted k (a / 2) (b / 2) i (half_lt k a ha) (half_lt k b hb) out-half in-half (half_within a b w) in
     let low = low_within a b w in
     omega (arith, ones_step a, ones_step b)
@@ -48,21 +49,21 @@ AllBut i a b = (j : ℕ) → In j b → In j a ⊎ (j ≡ i)
 
 -- where all members but seat 0 belong, the half is within the half
 half_but_zero : (a b : ℕ) → AllBut 0 a b → Within (b / 2) (a / 2)
-half_but_zero a b only j m = ⊎_elim (λ n. sym (digit_suc j a) ∙ n) (λ p. absurd (omega (arith, p))) (only (suc j) (digit_suc j b ∙ m))
+half_but_zero a b only j m = ⊎_elim (λ n. sym (bit_at-suc a j) ∙ n) (λ p. absurd (omega (arith, p))) (only (suc j) (bit_at-suc b j ∙ m))
 
 -- where all members but a higher seat belong, the halves stand likewise
 half_but : (i a b : ℕ) → AllBut (suc i) a b → AllBut i (a / 2) (b / 2)
-half_but i a b only j m = ⊎_elim (λ n. inl (sym (digit_suc j a) ∙ n)) (λ p. inr (omega (arith, p))) (only (suc j) (digit_suc j b ∙ m))
+half_but i a b only j m = ⊎_elim (λ n. inl (sym (bit_at-suc a j) ∙ n)) (λ p. inr (omega (arith, p))) (only (suc j) (bit_at-suc b j ∙ m))
 
 -- and so do the lowest digits
 low_but : (i a b : ℕ) → AllBut (suc i) a b → b % 2 ≤ a % 2
-low_but i a b only = ⊎_elim (λ z. omega arith) (λ o. ⊎_elim kept other (only 0 (digit_zero b ∙ o))) (even_or_odd b)
+low_but i a b only = ⊎_elim (λ z. omega arith) (λ o. ⊎_elim kept other (only 0 (bit_at_lowest b ∙ o))) (even_or_odd b)
   where
     low : b % 2 < 2
     low = mod-lt b (zero-lt-suc 1)
 
     kept : In 0 a → b % 2 ≤ a % 2
-    kept n = omega (arith, low, sym (digit_zero a) ∙ n)
+    kept n = omega (arith, low, sym (bit_at_lowest a) ∙ n)
 
     other : 0 ≡ suc i → b % 2 ≤ a % 2
     other p = absurd (omega (arith, p))
@@ -91,7 +92,7 @@ ones_below zero n s h low = let e : s ≡ 0 = omega arith in omega (arith, ap on
 ones_below (suc k) zero s h low =
     omega (arith, ones_within (suc k) s 0 h (pow_pos (suc k)) (λ i m. absurd (omega (arith, low i m))), ones_none)
 ones_below (suc k) (suc n) s h low =
-    let halves = ones_below k n (s / 2) (half_lt k s h) (λ i m. omega (arith, low (suc i) (digit_suc i s ∙ m))) in
+    let halves = ones_below k n (s / 2) (half_lt k s h) (λ i m. omega (arith, low (suc i) (bit_at-suc s i ∙ m))) in
     omega (arith, ones_step s)
 
 -- a set with a member has at least one seat

@@ -8,7 +8,8 @@ use Rattle.std.specs.Iterator.Runs.{YieldsInOrder}
 use Rattle.std.proofs.iter.runs.Sources.{from_front, as_is}
 use Rattle.seats.specs.declared.InOrder.{InOrder}
 use Rattle.seats.specs.Lists.{seats_from, seats_of, set_of, Rising, to_come, TakesLowest}
-use Rattle.seats.proofs.Digits.{digit_zero, digit_suc, half_lt, even_or_odd}
+use Rattle.std.proofs.lemmas.Nat.Bits.{bit_at_lowest, bit_at-suc}
+use Rattle.seats.proofs.Digits.{half_lt, even_or_odd}
 use Rattle.seats.proofs.Members.{in_small, same_sets, none_empty, shared, power, inserted}
 use Rattle.seats.proofs.Counts.{ones_none}
 use Rattle.seats.proofs.Walks.{NoneBelow, half_none}
@@ -33,7 +34,7 @@ Between n low k s = (j : ℕ) → In j s → (low ≤ k + j) × (k + j < n)
 -- the members of the half keep the bounds, one seat further up
 half_between : (n low k s : ℕ) → Between n low k s → Between n low (k + 1) (s / 2)
 half_between n low k s within j m =
-    let was = within (suc j) (digit_suc j s ∙ m) in
+    let was = within (suc j) (bit_at-suc s j ∙ m) in
     (omega (arith, was.0), omega (arith, was.1))
 
 -- and they are all above seat k
@@ -43,7 +44,7 @@ half_above n low k s within j m = (omega arith, (half_between n low k s within j
 -- seat k keeps the bounds where it belongs
 first_between : (n low k s : ℕ) → Between n low k s → s % 2 ≡ 1 → (low ≤ k) × (k < n)
 first_between n low k s within o =
-    let was = within 0 (digit_zero s ∙ o) in
+    let was = within 0 (bit_at_lowest s ∙ o) in
     (omega (arith, was.0), omega (arith, was.1))
 
 -- the list rises between the bounds that the members keep
@@ -214,25 +215,25 @@ from_taken zero k t old new h m none others = absurd (omega arith)
 from_taken (suc w) k zero old new h m none others =
     step (λ xs. xs ≡ (k + 0) ∷ seats_from (suc w) k new) w k old
     (λ o. step (λ ys. k ∷ seats_from w (k + 1) (old / 2) ≡ (k + 0) ∷ ys) w k new
-    (λ p. absurd (((others 0).0 (digit_zero new ∙ p)).1 refl))
+    (λ p. absurd (((others 0).0 (bit_at_lowest new ∙ p)).1 refl))
     (λ z. ap (λ x. x ∷ seats_from w (k + 1) (old / 2)) (omega arith) ∙ ap (λ s. (k + 0) ∷ seats_from w (k + 1) s) halves))
-    (λ z. absurd (omega (arith, digit_zero old)))
+    (λ z. absurd (omega (arith, bit_at_lowest old)))
   where
     halves : old / 2 ≡ new / 2
     halves = same_sets (old / 2) (new / 2) (λ j. (
-      λ n. sym (digit_suc j new) ∙ (others (suc j)).1 (digit_suc j old ∙ n, λ e. absurd (omega (arith, e))),
-      λ n. sym (digit_suc j old) ∙ ((others (suc j)).0 (digit_suc j new ∙ n)).0,
+      λ n. sym (bit_at-suc new j) ∙ (others (suc j)).1 (bit_at-suc old j ∙ n, λ e. absurd (omega (arith, e))),
+      λ n. sym (bit_at-suc old j) ∙ ((others (suc j)).0 (bit_at-suc new j ∙ n)).0,
     ))
 from_taken (suc w) k (suc t) old new h m none others =
-    step (λ xs. xs ≡ (k + suc t) ∷ seats_from (suc w) k new) w k old (λ o. absurd (none 0 (omega arith) (digit_zero old ∙ o)))
+    step (λ xs. xs ≡ (k + suc t) ∷ seats_from (suc w) k new) w k old (λ o. absurd (none 0 (omega arith) (bit_at_lowest old ∙ o)))
     (λ z. step (λ ys. seats_from w (k + 1) (old / 2) ≡ (k + suc t) ∷ ys) w k new
-    (λ p. absurd (none 0 (omega arith) ((others 0).0 (digit_zero new ∙ p)).0))
-    (λ y. from_taken w (k + 1) t (old / 2) (new / 2) (omega arith) (sym (digit_suc t old) ∙ m) (half_none old t none) halves ∙ ap (λ x. x ∷ seats_from w (k + 1) (new / 2)) (omega arith)))
+    (λ p. absurd (none 0 (omega arith) ((others 0).0 (bit_at_lowest new ∙ p)).0))
+    (λ y. from_taken w (k + 1) t (old / 2) (new / 2) (omega arith) (sym (bit_at-suc old t) ∙ m) (half_none old t none) halves ∙ ap (λ x. x ∷ seats_from w (k + 1) (new / 2)) (omega arith)))
   where
     halves : (j : ℕ) → Exactly (In j (new / 2)) (In j (old / 2) × (j ≡ t → ⊥))
     halves j = (
-      λ n. let was = (others (suc j)).0 (digit_suc j new ∙ n) in (sym (digit_suc j old) ∙ was.0, λ e. was.1 (ap suc e)),
-      λ p. sym (digit_suc j new) ∙ (others (suc j)).1 (digit_suc j old ∙ p.0, λ e. p.1 (omega (arith, e))),
+      λ n. let was = (others (suc j)).0 (bit_at-suc new j ∙ n) in (sym (bit_at-suc old j) ∙ was.0, λ e. was.1 (ap suc e)),
+      λ p. sym (bit_at-suc new j) ∙ (others (suc j)).1 (bit_at-suc old j ∙ p.0, λ e. p.1 (omega (arith, e))),
     )
 
 -- a set has its lowest seat at the start of its list, and the rest is what is left when it is taken

@@ -1,10 +1,11 @@
 -- The lowest member of a set, and the set without it. Assumes nothing.
-use Rattle.std.proofs.Common.{◌≡◌, ℕ, zero, suc, ◌-◌, ◌/◌, ◌%◌, ◌^◌, ◌<◌, ◌≤◌, ◌⊎◌, sym, refl, ap, ◌∙◌, subst, inl, inr, ⊎_elim, arith}
+use Rattle.std.proofs.Common.{w64, ◌≡◌, ℕ, zero, suc, ◌-◌, ◌/◌, ◌%◌, ◌^◌, ◌<◌, ◌≤◌, ◌⊎◌, sym, refl, ap, ◌∙◌, subst, inl, inr, ⊎_elim, arith}
 use lib.Bits.{bit_and, and_le_r}
-use lib.Count.{count_trailing_zeros, under}
+use lib.Count.{count_trailing_zeros}
 use Rattle.std.proofs.lemmas.Bool.{cases_eq, cases_lt}
 use Rattle.seats.specs.Sets.{In, Exactly, Lowest, Taken}
-use Rattle.seats.proofs.Digits.{digit, digit_zero, digit_suc, half_lt, even_or_odd}
+use Rattle.std.proofs.lemmas.Nat.Bits.{bit_at_lowest, bit_at-suc, bit_at-trailing_zeros}
+use Rattle.seats.proofs.Digits.{digit}
 use Rattle.seats.proofs.Members.{in_positive, out_nought, shared}
 use Rattle.seats.proofs.Counts.{ones_one_more}
 
@@ -12,54 +13,19 @@ use Rattle.seats.proofs.Counts.{ones_one_more}
 abbrev pub NoneBelow : ℕ → ℕ → Type 0
 NoneBelow s t = (j : ℕ) → j < t → In j s → ⊥
 
--- t is below k, and the lowest member of the set
-abbrev pub Found : ℕ → ℕ → ℕ → Type 0
-Found k s t = (t < k) × In t s × NoneBelow s t
-
--- an even number has one trailing nought more than its half
-trailing_even : (k s : ℕ) → s % 2 ≡ 0 → count_trailing_zeros (suc k) s ≡ suc (count_trailing_zeros k (s / 2))
-unfolding count_trailing_zeros
-trailing_even k s e = ap (λ (d : ℕ). under d (count_trailing_zeros k (s / 2))) e
-
--- an odd number has no trailing nought
-trailing_odd : (k s : ℕ) → s % 2 ≡ 1 → count_trailing_zeros (suc k) s ≡ 0
-unfolding count_trailing_zeros
-trailing_odd k s e = ap (λ (d : ℕ). under d (count_trailing_zeros k (s / 2))) e
-
--- the lowest member of an even number is one above that of its half
-none_below_suc : (s t : ℕ) → s % 2 ≡ 0 → NoneBelow (s / 2) t → NoneBelow s (suc t)
-none_below_suc s t e none zero h m = omega (arith, digit_zero s)
-none_below_suc s t e none (suc j) h m = none j (omega arith) (sym (digit_suc j s) ∙ m)
-
 -- the half of a number that has no member below suc t has none below t
 pub half_none : (s t : ℕ) → NoneBelow s (suc t) → NoneBelow (s / 2) t
-half_none s t none j h m = none (suc j) (omega arith) (digit_suc j s ∙ m)
-
--- the seat at the count of trailing noughts is the lowest member
-pub trailing_lowest : (k s : ℕ) → 0 < s → s < 2 ^ k → Found k s (count_trailing_zeros k s)
-trailing_lowest zero s p h = absurd (omega arith)
-trailing_lowest (suc k) s p h = ⊎_elim (even (λ pos. trailing_lowest k (s / 2) pos (half_lt k s h))) odd (even_or_odd s)
-  where
-    even : (0 < s / 2 → Found k (s / 2) (count_trailing_zeros k (s / 2))) → s % 2 ≡ 0 → Found (suc k) s (count_trailing_zeros (suc k) s)
-    even again e =
-        let t = count_trailing_zeros k (s / 2) in
-        let found = again (omega arith) in
-        subst (λ (x : ℕ). Found (suc k) s x) (sym (trailing_even k s e))
-        (omega (arith, found.0), digit_suc t s ∙ found.1, none_below_suc s t e found.2)
-
-    odd : s % 2 ≡ 1 → Found (suc k) s (count_trailing_zeros (suc k) s)
-    odd e =
-        subst (λ (x : ℕ). Found (suc k) s x) (sym (trailing_odd k s e)) (omega arith, digit_zero s ∙ e, λ j h m. omega arith)
+half_none s t none j h m = none (suc j) (omega arith) (bit_at-suc s j ∙ m)
 
 -- the code's answer is the lowest seat
 pub lowest_is : (s : ℕ) → 0 < s → s < 2 ^ 64 → Lowest s (count_trailing_zeros 64 s)
 lowest_is s p h =
-    let found = trailing_lowest 64 s p h in
-    record { seated = found.0; member = found.1; least = found.2 }
+    let found = bit_at-trailing_zeros w64 s p h in
+    record { seated = found.0; member = found.1; least = λ j low m. omega (arith, found.2 j low, m) }
 
 -- a number whose lowest member is above 0 is even
 low_even : (s t : ℕ) → NoneBelow s (suc t) → s % 2 ≡ 0
-low_even s t none = sym (digit_zero s) ∙ out_nought 0 s (none 0 (omega arith))
+low_even s t none = sym (bit_at_lowest s) ∙ out_nought 0 s (none 0 (omega arith))
 
 -- the half of the number before an even one
 half_pred : (s : ℕ) → 0 < s → s % 2 ≡ 0 → (s - 1) / 2 ≡ s / 2 - 1
@@ -67,20 +33,20 @@ half_pred s p e = omega arith
 
 -- the number before has a nought at the lowest member
 pub pred_at : (t s : ℕ) → In t s → NoneBelow s t → digit t (s - 1) ≡ 0
-pred_at zero s m none = digit_zero (s - 1) ∙ omega (arith, sym (digit_zero s) ∙ m)
+pred_at zero s m none = bit_at_lowest (s - 1) ∙ omega (arith, sym (bit_at_lowest s) ∙ m)
 pred_at (suc t) s m none =
-    digit_suc t (s - 1) ∙ ap (digit t) (half_pred s (in_positive (suc t) s m) (low_even s t none))
-    ∙ pred_at t (s / 2) (sym (digit_suc t s) ∙ m) (half_none s t none)
+    bit_at-suc (s - 1) t ∙ ap (digit t) (half_pred s (in_positive (suc t) s m) (low_even s t none))
+    ∙ pred_at t (s / 2) (sym (bit_at-suc s t) ∙ m) (half_none s t none)
 
 -- and the same digits above it
 pub pred_above : (t s j : ℕ) → In t s → NoneBelow s t → t < j → digit j (s - 1) ≡ digit j s
 pred_above t s zero m none h = absurd (omega arith)
 pred_above zero s (suc j) m none h =
-    let same : (s - 1) / 2 ≡ s / 2 = omega (arith, sym (digit_zero s) ∙ m) in
-    digit_suc j (s - 1) ∙ ap (digit j) same ∙ sym (digit_suc j s)
+    let same : (s - 1) / 2 ≡ s / 2 = omega (arith, sym (bit_at_lowest s) ∙ m) in
+    bit_at-suc (s - 1) j ∙ ap (digit j) same ∙ sym (bit_at-suc s j)
 pred_above (suc t) s (suc j) m none h =
-    digit_suc j (s - 1) ∙ ap (digit j) (half_pred s (in_positive (suc t) s m) (low_even s t none))
-    ∙ pred_above t (s / 2) j (sym (digit_suc t s) ∙ m) (half_none s t none) (omega arith) ∙ sym (digit_suc j s)
+    bit_at-suc (s - 1) j ∙ ap (digit j) (half_pred s (in_positive (suc t) s m) (low_even s t none))
+    ∙ pred_above t (s / 2) j (sym (bit_at-suc s t) ∙ m) (half_none s t none) (omega arith) ∙ sym (bit_at-suc s j)
 
 -- the `and` of a number with the one before holds all members but the lowest
 pub cleared : (t s j : ℕ) → In t s → NoneBelow s t → Exactly (In j (bit_and s (s - 1))) (In j s × (j ≡ t → ⊥))

@@ -1,4 +1,5 @@
 // Sets of seats. A set is a number of 64 bits: bit i is one exactly when seat i belongs.
+// It is a plain u64 and no type of its own: the rules speak of its count of ones and its trailing zeros.
 // Every function takes every argument; each contract says which seats belong to the answer.
 #![tactic(auto)]
 
@@ -83,8 +84,7 @@ pub fn lowest(set: u64) -> Option<u8>
     Some(set.trailing_zeros() as u8)
 }
 
-// Takes the lowest seat out of the set and answers it: the walk of a set in the order of its seats,
-// as `while let Some(seat) = take_lowest(&mut left) { .. }`.
+// Takes the lowest seat out of the set and answers it.
 pub fn take_lowest(left: &mut u64) -> Option<u8>
     ensures { MatchOption result ((left.old ≡ 0) × (left.new ≡ 0)) (λ t. Taken left.old left.new t) }
 {
@@ -93,7 +93,7 @@ pub fn take_lowest(left: &mut u64) -> Option<u8>
     Some(seat)
 }
 
-// The seats of a set that are still to come, from the lowest up.
+// A walk through a set in the order of its seats, with the seats that are still to come.
 #[derive(Drop)]
 pub struct InOrder {
     pub left: u64,
@@ -111,7 +111,7 @@ impl Iterator for InOrder {
     }
 }
 
-// The seats of a set, from the lowest up.
+// The seats of a set, from the lowest up, as `for seat in members_of(set) { .. }`.
 pub fn members_of(set: u64) -> InOrder
     ensures set { result.left ≡ set }
     ensures runs { YieldsInOrder TakesLowest to_come }

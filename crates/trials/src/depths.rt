@@ -59,3 +59,25 @@ fn the_largest_depth_stays(rt: HostRuntime) {
     let answer: Result<u8, Fault> = passed_up(Ok(7));
     assert_eq!(rt; answer, Ok(7));
 }
+
+#[test]
+fn refusals_in_words(rt: HostRuntime) -> Result<(), Fail> {
+    for (fault, words) in [
+        (
+            no_such_base(0, 2),
+            "NoSuchBase (number 3) at Seat(0), by Legs at depth 2",
+        ),
+        (
+            Fault::on_page(Reason::Layout, 4, 7),
+            "Layout (number 13) at Column { line: 4, column: 7 }, by Page at depth 0",
+        ),
+        (
+            Fault::nowhere(Reason::OutputTooShort, Kind::Page),
+            "OutputTooShort (number 20) at None, by Page at depth 0",
+        ),
+    ] {
+        let text = format!(in rt.alloc(); "{fault}")?;
+        assert_eq!(rt; text.as_str(), words);
+    }
+    Ok(())
+}
