@@ -1,2 +1,3 @@
 mod Reasons
 mod Linking
+mod SharedLegs

@@ -11,12 +11,12 @@ use Rattle.legs.specs.Refusals.{refuse, first_due, beyond, leg_fault, first_faul
 
 -- where no fault is due, a test is not met, and none is due after it
 passed : (test : Bool) (fault : Fault) (after : Option Fault) → refuse test fault after ≡ None → (test ≡ false) × (after ≡ None)
-passed true fault after e = absurd (let z : ◌≡◌ {A = ℕ} 0 1 = cc in omega arith)
+passed true fault after e = absurd cc
 passed false fault after e = (refl, e)
 
 first_passed : (fault after : Option Fault) → first_due fault after ≡ None → (fault ≡ None) × (after ≡ None)
 first_passed None after e = (refl, e)
-first_passed (Some fault) after e = absurd (let z : ◌≡◌ {A = ℕ} 0 1 = cc in omega arith)
+first_passed (Some fault) after e = absurd cc
 
 leg_passed : (seats : ℕ) (leg : Leg) → leg_fault seats leg ≡ None → LawfulLeg seats leg
 leg_passed seats leg e =

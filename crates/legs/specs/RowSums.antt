@@ -11,22 +11,32 @@ use Rattle.legs.specs.declared.leg.Leg.{Leg}
 use Rattle.legs.specs.declared.leg.LegRow.{LegRow}
 use Rattle.legs.specs.declared.table.LegTable.{LegTable}
 use Rattle.legs.specs.Lawful.{leg_at}
-use Rattle.legs.specs.Shares.{shape_of, amount_of}
+use Rattle.legs.specs.Shares.{shape_of, amount_of, most_of}
 use Rattle.legs.specs.Written.{row_of, leg_rows, row_share}
 
 -- there is one row for each leg
 pub length_rows : (legs : List Leg) (first : List ℕ) → length (leg_rows legs first) ≡ length legs
 length_rows legs first = length-map-range_with_len (λ t. row_of (leg_at legs t) (slice_index first t)) 0 (length legs)
 
+-- the sum of g over f 0, .., f (n - 1), place by place
+pub sum_by_range : {X : Type 0} (g : X → ℕ) (f : ℕ → X) (n : ℕ) → sum_by g (map f (range_with_len 0 n)) ≡ sum_to n (λ t. g (f t))
+sum_by_range g f zero = refl
+sum_by_range g f (suc n) =
+    ap (λ (k : ℕ). sum_by g (map f (range_with_len 0 k))) (sym (add-one n))
+    ∙ sum_by-map-range_with_len_more g f 0 n n (omega arith)
+    ∙ ap (λ (k : ℕ). k + g (f n)) (sum_by_range g f n)
+
+-- the sum of the passages of a list of legs
+pub sum_passages : (legs : List Leg) → sum_by (λ leg. leg.passages) legs ≡ most_of legs
+sum_passages legs =
+    let no_leg : Leg = record { a = 0; b = 0; passages = 0 } in
+    ap (sum_by (λ (leg : Leg). leg.passages)) (fill_by_all (leg_at legs) legs (length legs) no_leg refl (λ k h. refl))
+    ∙ sum_by_range (λ leg. leg.passages) (leg_at legs) (length legs)
+
 -- the sum over the first n rows is the sum over the first n legs
 rows_sum : (legs : List Leg) (first : List ℕ) (s n : ℕ)
     → sum_by (λ row. row_share row s) (map (λ t. row_of (leg_at legs t) (slice_index first t)) (range_with_len 0 n)) ≡ sum_to n (λ t. amount_of legs first t s)
-rows_sum legs first s zero = refl
-rows_sum legs first s (suc n) =
-    let f : ℕ → LegRow = λ t. row_of (leg_at legs t) (slice_index first t) in
-    ap (λ (k : ℕ). sum_by (λ row. row_share row s) (map f (range_with_len 0 k))) (sym (add-one n))
-    ∙ sum_by-map-range_with_len_more (λ row. row_share row s) f 0 n n (omega arith)
-    ∙ ap (λ (k : ℕ). k + amount_of legs first n s) (rows_sum legs first s n)
+rows_sum legs first s n = sum_by_range (λ row. row_share row s) (λ t. row_of (leg_at legs t) (slice_index first t)) n
 
 -- the load of a seat is what the rows give to it
 pub load_rows : (seats : ℕ) (legs : List Leg) (first : List ℕ) (s : ℕ) → s < seats

@@ -5,7 +5,6 @@ ghost use Rattle.legs.specs.Shares.{shape_of, amount_of, most_of};
 ghost use Rattle.legs.specs.Lawfully.{shares_fill, load_high, most_small};
 ghost use Rattle.std.proofs.Common.{arith};
 
-use crate::moves::{linked, share};
 use crate::table::LegTable;
 use faults::Kind;
 use items::Division;
@@ -36,29 +35,16 @@ impl Division for LegTable {
     }
 
     fn ceiling(&self) -> u32 {
-        let mut sum = 0;
-        for leg in self.legs.as_slice() {
-            sum += leg.passages;
-        }
-        sum
+        self.legs.iter().map(|leg| leg.passages).sum()
     }
 
     fn held(&self, seat: u8) -> u32 {
-        let legs = self.legs.as_slice();
-        let mut sum = 0;
-        for t in 0..legs.len() {
-            sum += share(legs[t], self.first[t], seat);
-        }
-        sum
+        self.shared().map(|leg| leg.share(seat)).sum()
     }
 
     fn links(&self, u: u8) -> u64 {
-        let legs = self.legs.as_slice();
-        let mut set = 0;
-        for t in 0..legs.len() {
-            set = seats::union(set, linked(legs[t], self.first[t], u));
-        }
-        set
+        self.shared()
+            .fold(0, |set, leg| seats::union(set, leg.linked(u)))
     }
 
     fn relay(&mut self, u: u8, v: u8) -> bool {

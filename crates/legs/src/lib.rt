@@ -3,7 +3,6 @@
 
 pub mod division;
 pub mod leg;
-mod limits;
 mod making;
 mod moves;
 pub mod table;

@@ -1,12 +1,13 @@
 // Writing a table of legs as rows.
-ghost use Rattle.std.specs.Prelude.{◌≡◌, ◌≤◌, length};
+ghost use Rattle.std.specs.Prelude.{◌≡◌, length};
 ghost use Rattle.legs.specs.Written.{row_of, leg_rows, row_share};
 ghost use Rattle.std.proofs.Common.{arith};
 ghost use Rattle.items.proofs.Units.{length_loads};
 ghost use Rattle.legs.specs.Shares.{shape_of, amount_of};
 ghost use Rattle.legs.specs.RowSums.{table_load_rows};
 
-use crate::leg::{Leg, LegRow};
+use crate::leg::LegRow;
+use crate::moves::SharedLeg;
 use crate::table::LegTable;
 use faults::{Fault, Kind, Reason};
 use items::Recorded;
@@ -32,26 +33,26 @@ impl Recorded for LegTable {
         table_load_rows d i (omega arith) };
 
     fn write_rows(&self, out: &mut [LegRow]) -> Result<usize, Fault> {
-        let legs = self.legs.as_slice();
-        if out.len() < legs.len() {
+        let rows = self.rows();
+        if out.len() < rows {
             return Err(Fault::nowhere(Reason::TooFewRows, Kind::Legs));
         }
-        for t in 0..legs.len() {
-            out[t] = row(legs[t], self.first[t]);
+        for (t, leg) in self.shared().enumerate() {
+            out[t] = LegRow::from(leg);
         }
-        Ok(legs.len())
+        Ok(rows)
     }
 }
 
-// The row of a leg of which end a has `first`.
-fn row(leg: Leg, first: u32) -> LegRow
-    requires { first ≤ leg.passages }
-    ensures { result ≡ row_of leg first }
-{
-    LegRow {
-        a: leg.a,
-        b: leg.b,
-        share_a: first,
-        share_b: leg.passages - first,
+impl From<SharedLeg> for LegRow {
+    ghost from_gives = { λ shared row. row ≡ row_of shared.leg shared.first };
+
+    fn from(shared: SharedLeg) -> LegRow {
+        LegRow {
+            a: shared.leg.a,
+            b: shared.leg.b,
+            share_a: shared.first,
+            share_b: shared.leg.passages - shared.first,
+        }
     }
 }

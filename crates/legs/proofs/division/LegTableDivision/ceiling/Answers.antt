@@ -1,34 +1,23 @@
--- The slice that is walked holds the legs of the table.
-use Rattle.std.proofs.Common.{◌≡◌, ℕ, ◌<◌, List, length, vec_items, ap, ◌∙◌, arith}
-use Rattle.bases.specs.Sums.{sum_to}
+-- The chain gives the passages of each leg, and their sum is small.
+use Rattle.std.proofs.Common.{◌≡◌, ◌<◌, ◌^◌, length, ◌∙◌, rules, arith}
+use Rattle.std.specs.List.{sum_by}
+use Rattle.std.proofs.iter.runs.Made.{chains}
 use Rattle.legs.specs.declared.leg.Leg.{Leg}
-use Rattle.legs.specs.Lawful.{leg_at}
-use Rattle.legs.specs.Lawfully.{sum_more, most_small}
+use Rattle.legs.specs.Lawfully.{most_small}
+use Rattle.legs.specs.RowSums.{sum_passages}
 use Rattle.legs.proofs.division.LegTableDivision.ceiling.Goals as goal
 
-pub overflow_add-sum : goal.overflow_add-sum
-overflow_add-sum c =
+pub sum-requires-clause-fits : goal.sum-requires-clause-fits
+sum-requires-clause-fits c =
     let d = c.args.self.now in
-    let legs = vec_items d.legs in
-    let i = c.loop-leg.leg-index in
-    let same = c.as_slice-leg-items.ensures.value in
-    let len = ap (λ (xs : List Leg). length xs) same in
-    let leg = ap (λ (xs : List Leg). (leg_at xs i).passages) same in
-    let among : i < length legs = omega arith in
-    let most = most_small d.seats legs d.lawful i (omega arith) in
-    omega (arith, c.loop-leg.invariant, (d.lawful i among).4, d.few.2)
-
-pub loop-leg-preserved : goal.loop-leg-preserved
-loop-leg-preserved c =
-    let legs = vec_items c.args.self.now.legs in
-    let i = c.loop-leg.leg-index in
-    let leg = ap (λ (xs : List Leg). (leg_at xs i).passages) c.as_slice-leg-items.ensures.value in
-    let more = sum_more i (λ t. (leg_at legs t).passages) in
-    omega (arith, c.loop-leg.invariant)
+    let legs = d.legs.items in
+    let all = sum_passages legs in
+    let most = most_small d.seats legs d.lawful (length legs) (omega arith) in
+    let small : sum_by (λ (leg : Leg). leg.passages) legs < 2 ^ 32 = omega (arith, d.few.2) in
+    search (rules, chains)
 
 pub returns : goal.returns
 returns c =
-    let legs = vec_items c.args.self.now.legs in
-    let len = ap (λ (xs : List Leg). length xs) c.as_slice-leg-items.ensures.value in
-    let all : c.loop-leg.leg-index ≡ length legs = omega arith in
-    c.loop-leg.invariant ∙ ap (λ (k : ℕ). sum_to k (λ t. (leg_at legs t).passages)) all
+    let legs = c.args.self.now.legs.items in
+    let sum : c.sum.result ≡ sum_by (λ (leg : Leg). leg.passages) legs = search (rules, chains) in
+    sum ∙ sum_passages legs

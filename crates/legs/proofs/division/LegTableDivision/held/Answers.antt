@@ -1,40 +1,29 @@
--- The slice that is walked holds the legs of the table.
-use Rattle.std.proofs.Common.{◌≡◌, ℕ, ◌+◌, List, length, get_or, vec_items, ap, ◌∙◌, arith}
-use Rattle.bases.specs.Sums.{sum_to}
-use Rattle.legs.specs.declared.leg.Leg.{Leg}
-use Rattle.legs.specs.Lawful.{leg_at}
-use Rattle.legs.specs.Shares.{share_of, amount_of}
-use Rattle.legs.specs.Lawfully.{sum_more, held_small, held_is}
+-- The chain gives the share of each leg, and their sum is small.
+use Rattle.std.proofs.Common.{length, ◌∙◌, rules, tests, arith}
+use Rattle.std.proofs.lemmas.Iterator.{YieldsList-from_map}
+use Rattle.std.proofs.lemmas.Iterator.Consumers.{YieldsList-from_first, YieldsList-at, sum_by_from_yields_List, fits_by_from_yields_list}
+use Rattle.legs.specs.Lawfully.{held_small, held_is}
+use Rattle.legs.specs.Shares.{share_of}
+use Rattle.legs.specs.SharedLegs.{pairs_of, pair_of, pairs_left}
+use Rattle.legs.proofs.SharedLegs.{sum_shares}
 use Rattle.legs.proofs.division.LegTableDivision.held.Goals as goal
 
-pub overflow_add-sum : goal.overflow_add-sum
-overflow_add-sum c =
+pub sum-requires-clause-fits : goal.sum-requires-clause-fits
+sum-requires-clause-fits c =
     let d = c.args.self.now in
-    let legs = vec_items d.legs in
-    let t = c.loop-t.t in
-    let seat = c.args.seat in
-    let same = c.as_slice-legs.ensures.value in
-    let len = ap (λ (xs : List Leg). length xs) same in
-    let share = c.share-sum.ensures ∙ ap (λ (xs : List Leg). share_of (leg_at xs t) (get_or d.first t 0) seat) same in
-    let most = held_small d.seats legs d.lawful d.first d.within seat (t + 1) (omega arith) in
-    let more = sum_more t (λ k. amount_of legs d.first k seat) in
-    omega (arith, c.loop-t.invariant, d.few.2)
-
-pub loop-t-preserved : goal.loop-t-preserved
-loop-t-preserved c =
-    let d = c.args.self.now in
-    let legs = vec_items d.legs in
-    let t = c.loop-t.t in
-    let seat = c.args.seat in
-    let share = c.share-sum.ensures ∙ ap (λ (xs : List Leg). share_of (leg_at xs t) (get_or d.first t 0) seat) c.as_slice-legs.ensures.value in
-    let more = sum_more t (λ k. amount_of legs d.first k seat) in
-    omega (arith, c.loop-t.invariant)
+    let legs = d.legs.items in
+    let pairs = pairs_of legs d.first in
+    let all = sum_shares legs d.first c.args.seat in
+    let most = held_small d.seats legs d.lawful d.first d.within c.args.seat (length legs) (omega arith) in
+    fits_by_from_yields_list (λ p. share_of p.0 p.1 c.args.seat) pairs c.map.result _
+    (YieldsList-from_map _ (λ p. share_of p.0 p.1 c.args.seat) (YieldsList-at c.map.ensures.source (YieldsList-from_first pair_of pairs_left pairs c.shared.ensures)) c.map.ensures.closure (λ x r q k. search (rules, tests)))
+    (omega (arith, d.few.2))
 
 pub returns : goal.returns
 returns c =
     let d = c.args.self.now in
-    let legs = vec_items d.legs in
-    let seat = c.args.seat in
-    let len = ap (λ (xs : List Leg). length xs) c.as_slice-legs.ensures.value in
-    let all : c.loop-t.t ≡ length legs = omega arith in
-    c.loop-t.invariant ∙ ap (λ (k : ℕ). sum_to k (λ t. amount_of legs d.first t seat)) all ∙ held_is d.seats legs d.lawful d.first d.within seat
+    let legs = d.legs.items in
+    let pairs = pairs_of legs d.first in
+    sum_by_from_yields_List (λ p. share_of p.0 p.1 c.args.seat) pairs c.map.result c.sum.result c.sum.ensures.ran
+    (YieldsList-from_map _ (λ p. share_of p.0 p.1 c.args.seat) (YieldsList-at c.map.ensures.source (YieldsList-from_first pair_of pairs_left pairs c.shared.ensures)) c.map.ensures.closure (λ x r q k. search (rules, tests)))
+    ∙ sum_shares legs d.first c.args.seat ∙ held_is d.seats legs d.lawful d.first d.within c.args.seat
