@@ -10,7 +10,6 @@ use Rattle.faults.specs.Places.{fault_on_page}
 use Rattle.columns.specs.declared.words.Word.{Word}
 use Rattle.columns.specs.Numbers.{and_then, number_of}
 use Rattle.columns.specs.Rows.{word_column}
-use Rattle.cursors.specs.declared.cursor.Cursor.{Cursor}
 
 -- what is left of a page, and the line and the column that come next
 pub record Spot : Type 0 where
@@ -100,6 +99,11 @@ line_end p = cond (slice_index p.rest 0 == 10) (got tt (below p)) (refused (here
 abbrev pub closed : Bool → Reason → Step (Unit {0})
 closed sound otherwise p = go_on (line_end p) (λ _ q. cond sound (got tt q) (refused (fault_on_page otherwise p.line 0)))
 
+-- the same, by what is wrong with the columns, if anything is
+abbrev pub flawed : Option Reason → Step (Unit {0})
+flawed None = line_end
+flawed (Some reason) = closed false reason
+
 -- the end of a page
 abbrev pub page_end : Step (Unit {0})
 page_end p = cond (length p.rest == 0) (got tt p) (refused (here Layout p))
@@ -108,10 +112,12 @@ page_end p = cond (length p.rest == 0) (got tt p) (refused (here Layout p))
 abbrev pub start : List ℕ → Spot
 start page = record { rest = page; line = 1; column = 1 }
 
--- where a cursor stands, and what a call answered together with where the cursor then stands
-abbrev pub spot : Cursor → Spot
-spot c = record { rest = c.rest.now; line = c.line; column = c.column }
+-- what a call answered, together with where the cursor then stands
+abbrev pub outcome : {A : Type 0} → Result A Fault → Spot → Outcome A
+outcome (Ok x) p = got x p
+outcome (Err e) p = refused e
 
-abbrev pub outcome : {A : Type 0} → Result A Fault → Cursor → Outcome A
-outcome (Ok x) c = got x (spot c)
-outcome (Err e) c = refused e
+-- the same, where the answer is seen by what it says
+abbrev pub outcome_by : {A B : Type 0} → (A → B) → Result A Fault → Spot → Outcome B
+outcome_by view (Ok x) p = got (view x) p
+outcome_by view (Err e) p = refused e

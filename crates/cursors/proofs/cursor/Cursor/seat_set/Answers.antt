@@ -1,21 +1,14 @@
-use Rattle.std.proofs.Common.{◌+◌, ◌≤◌, sym, ap, ◌∙◌, arith}
-use Rattle.std.proofs.lemmas.Result.{err_from_is_err_and}
-use Rattle.seats.specs.Lists.{seats_of, set_of}
+use Rattle.std.proofs.Common.{◌+◌, ◌≤◌, sym, ◌∙◌, arith}
+use Rattle.seats.specs.Lists.{seats_of}
 use Rattle.seats.proofs.Members.{in_none}
-use Rattle.cursors.specs.Steps.{seat, go_on, done}
+use Rattle.cursors.specs.Steps.{seat}
 use Rattle.cursors.proofs.Cells.{seat_bounds}
-use Rattle.cursors.proofs.Chained.{onward_refused, onward_all}
+use Rattle.cursors.proofs.Chained.{onward_all}
 use Rattle.cursors.proofs.Rises.{rises_none, rises_turn, still_below, set_found, as_set}
 use Rattle.cursors.proofs.cursor.Cursor.seat_set.Goals as goal
 
 pub loop-init : goal.loop-init
 loop-init c = (rises_none _ c.args.size _, λ j i. absurd (in_none j i), omega arith, omega arith)
-
-pub returns-in_err-seat : goal.returns-in_err-seat
-returns-in_err-seat c =
-    let p = err_from_is_err_and c.from_residual.result c.from_residual.ensures.1 in
-    let stop = onward_refused (λ l. seat l c.min-count.result) (λ _ v. v + 1) (seats_of c.loop.set) _ _ c.loop.low _ _ c.loop-test.true c.in_err-seat.ensures in
-    rw (p.1, p.2) (ap (λ o. go_on o (λ xs. done (set_of xs))) (sym stop ∙ c.loop.invariant.0) ∙ as_set c.args.n _ c.args.size _ c.min-count.ensures)
 
 pub loop-preserved : goal.loop-preserved
 loop-preserved c =
