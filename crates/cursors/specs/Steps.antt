@@ -1,7 +1,10 @@
 -- Reading from left to right: a step takes a spot in a page, and answers what it found and the next spot, or a fault. Assumes nothing.
 use Rattle.std.specs.Prelude.{ℕ, ◌+◌, Bool, false, cond, ◌&&◌, ltb, List, length, take, drop, Some, None, Ok, Err, Option, Result, ◌==◌, nat_le, nat_lt, slice_index}
 use Rattle.std.specs.Option.{option_map, unwrap_or, ok_or}
+use Rattle.std.specs.Ordering.{nat_cmp, as_partial_cmp}
+use Rattle.std.specs.Range.Bound.{bounds_contain}
 use Rattle.std.specs.Str.{bytes_eq}
+use Rattle.std.specs.declared.ops.Bound.{Bound}
 use Rattle.limits.specs.Limits.{column_bytes}
 use Rattle.faults.specs.declared.Fault.{Fault}
 use Rattle.faults.specs.declared.Reason.{Reason}
@@ -70,6 +73,10 @@ tested good otherwise p (Ok v) = cond (good v) (got v (past column_bytes p)) (re
 
 abbrev pub field : (ℕ → Bool) → Reason → Step ℕ
 field good otherwise p = tested good otherwise p (shown p)
+
+-- whether a number lies between the ends of a range
+abbrev pub lies : Bound ℕ → Bound ℕ → ℕ → Bool
+lies start end = bounds_contain (as_partial_cmp nat_cmp) start end
 
 -- a number from low to high
 abbrev pub number : ℕ → ℕ → Step ℕ

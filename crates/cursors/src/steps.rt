@@ -1,8 +1,7 @@
 // The steps of a reader: each takes what comes next from a cursor, or refuses it with a fault.
 ghost use Rattle.std.specs.Prelude.{◌≡◌, ℕ, ◌≤◌, Bool, true, false, length, MatchOption, MatchResult, Some, None, Err, ◌==◌, slice_index};
-ghost use Rattle.std.specs.Range.Bound.{bounds_contain};
 ghost use Rattle.limits.specs.Limits.{column_bytes};
-ghost use Rattle.cursors.specs.Steps.{start, block, past, below, here, shown, field, number, number_below, seat, word, at_word, line_end, flawed, page_end, outcome, outcome_by};
+ghost use Rattle.cursors.specs.Steps.{start, block, past, below, here, shown, lies, field, number, number_below, seat, word, at_word, line_end, flawed, page_end, outcome, outcome_by};
 
 use crate::cursor::Cursor;
 use crate::numbers::Number;
@@ -69,8 +68,8 @@ impl<'a> Cursor<'a> {
     // A number that lies in a range, or else this fault.
     fn within<N: Number, R: RangeBounds<u64>>(&mut self, range: R, otherwise: Reason) -> Result<N, Fault>
         requires known { R.has_bounds range }
-        requires narrow { (v : ℕ) → bounds_contain ⟦<u64 as PartialOrd>⟧.partial_cmp (R.start_bound range) (R.end_bound range) v ≡ true → v ≤ N.greatest }
-        ensures { outcome_by N.value result self.new ≡ field (bounds_contain ⟦<u64 as PartialOrd>⟧.partial_cmp (R.start_bound range) (R.end_bound range)) otherwise self.old }
+        requires narrow { (v : ℕ) → lies (R.start_bound range) (R.end_bound range) v ≡ true → v ≤ N.greatest }
+        ensures { outcome_by N.value result self.new ≡ field (lies (R.start_bound range) (R.end_bound range)) otherwise self.old }
     {
         let (value, behind) = self.shown()?;
         match N::narrow(value) {
