@@ -119,12 +119,11 @@ page_end p = cond (length p.rest == 0) (got tt p) (refused (here Layout p))
 abbrev pub start : List ℕ → Spot
 start page = record { rest = page; line = 1; column = 1 }
 
--- what a call answered, together with where the cursor then stands
-abbrev pub outcome : {A : Type 0} → Result A Fault → Spot → Outcome A
-outcome (Ok x) p = got x p
-outcome (Err e) p = refused e
-
--- the same, where the answer is seen by what it says
+-- what a call answered, seen by what it says, together with where the cursor then stands
 abbrev pub outcome_by : {A B : Type 0} → (A → B) → Result A Fault → Spot → Outcome B
 outcome_by view (Ok x) p = got (view x) p
 outcome_by view (Err e) p = refused e
+
+-- the same, seen as it is
+abbrev pub outcome : {A : Type 0} → Result A Fault → Spot → Outcome A
+outcome = outcome_by (λ x. x)

@@ -1,5 +1,5 @@
 // The steps of a reader: each takes what comes next from a cursor, or refuses it with a fault.
-ghost use Rattle.std.specs.Prelude.{◌≡◌, ℕ, ◌≤◌, Bool, true, false, length, MatchOption, MatchResult, Some, None, Err, ◌==◌, slice_index};
+ghost use Rattle.std.specs.Prelude.{◌≡◌, ℕ, ◌≤◌, true, false, length, MatchOption, MatchResult, ◌==◌, slice_index};
 ghost use Rattle.limits.specs.Limits.{column_bytes};
 ghost use Rattle.cursors.specs.Steps.{start, block, past, below, here, shown, lies, field, number, number_below, seat, word, at_word, line_end, flawed, page_end, outcome, outcome_by};
 
@@ -66,7 +66,11 @@ impl<'a> Cursor<'a> {
     }
 
     // A number that lies in a range, or else this fault.
-    fn within<N: Number, R: RangeBounds<u64>>(&mut self, range: R, otherwise: Reason) -> Result<N, Fault>
+    fn within<N: Number, R: RangeBounds<u64>>(
+        &mut self,
+        range: R,
+        otherwise: Reason,
+    ) -> Result<N, Fault>
         requires known { R.has_bounds range }
         requires narrow { (v : ℕ) → lies (R.start_bound range) (R.end_bound range) v ≡ true → v ≤ N.greatest }
         ensures { outcome_by N.value result self.new ≡ field (lies (R.start_bound range) (R.end_bound range)) otherwise self.old }
@@ -122,7 +126,9 @@ impl<'a> Cursor<'a> {
     pub fn word(&mut self, expected: Word) -> Result<(), Fault>
         ensures { outcome result self.new ≡ word expected self.old }
     {
-        *self = self.behind_word(expected).ok_or(self.fault(Reason::Layout))?;
+        *self = self
+            .behind_word(expected)
+            .ok_or(self.fault(Reason::Layout))?;
         Ok(())
     }
 

@@ -38,16 +38,9 @@ impl Line for Group {
     fn read(cursor: &mut Cursor<'_>, bound: u8, index: u32) -> Result<Group, Fault> {
         let parent = cursor.below(bound)?;
         let lo = cursor.number(0, MOST_IN_NEST)?;
-        let (least, most) = if index == 0 {
-            (lo, lo)
-        } else {
-            (0, MOST_IN_NEST)
-        };
-        let hi = cursor.number(least, most)?;
-        let lower = if index == 0 {
-            parent == 0
-        } else {
-            u32::from(parent) < index
+        let (hi, lower) = match index {
+            0 => (cursor.number(lo, lo)?, parent == 0),
+            _ => (cursor.number(0, MOST_IN_NEST)?, u32::from(parent) < index),
         };
         cursor.close_line((!lower).then_some(Reason::ParentNotLower))?;
         Ok(Group { parent, lo, hi })

@@ -1,4 +1,4 @@
-use Rattle.std.proofs.Common.{◌∙◌, rules}
+use Rattle.std.proofs.Common.{rules}
 use Rattle.cursors.proofs.Tests.{same_test}
 use Rattle.cursors.proofs.cursor.Cursor.seat.Goals as goal
 
