@@ -44,7 +44,8 @@ fn digit_after(before: Option<u64>, byte: u8) -> Option<Option<u64>>
     }
 }
 
-// The number that the bytes of a column say.
+// The number that the bytes of a column say. (A fold does not tell its closure how many digits stand
+// before a byte, and so not that ten times their number fits.)
 fn digits(column: &[u8]) -> Option<u64>
     requires { length column.now ≤ 18 }
     ensures { result ≡ number_after None column.now }

@@ -2,5 +2,5 @@ pub mod Read
 pub mod Cells
 pub mod Chained
 mod Rises
-mod Tests
+mod Passing
 pub mod Sections

@@ -2,6 +2,7 @@
 ghost use Rattle.std.specs.Prelude.{◌≡◌, ℕ, ◌<◌, ◌≤◌, MatchOption};
 
 // A type of numbers from 0 to a greatest one, which is no wider than 64 bits.
+// Its two calls are its own, since bounds on `Into<u64>` and `TryFrom<u64>` do not say how great a number can be.
 pub trait Number: Copy {
     ghost value: { Self → ℕ };
 

@@ -1,6 +1,6 @@
 use Rattle.std.proofs.Common.{◌∙◌, arith}
 use Rattle.std.proofs.lemmas.Bool.Decides.{nat_tests}
-use Rattle.cursors.proofs.Tests.{same_test}
+use Rattle.cursors.proofs.Passing.{same_test}
 use Rattle.cursors.proofs.cursor.Cursor.number.Goals as goal
 
 pub returns : goal.returns
