@@ -1,5 +1,2 @@
 pub mod Numbered
-mod Blanks
-mod Filling
 mod Fronts
-mod Shortened

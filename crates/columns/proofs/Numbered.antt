@@ -1,8 +1,7 @@
 -- What is written for a number reads as it, and what reads as a number is what is written for it. Assumes nothing.
-use Rattle.std.proofs.Common.{◌≡◌, ℕ, zero, suc, ◌+◌, ◌/◌, ◌%◌, ◌^◌, ◌<◌, ◌≤◌, Bool, true, false, cond, ltb, leb, List, [], ◌∷◌, ◌++◌, length, get_or, drop, replicate, Some, None, Option, unwrap_or, sym, refl, ap, ◌∙◌, subst, inl, inr, append_assoc, append-nil, add-zero, pow-suc, zero-add, add-one, arith}
-use native.Mathlib.Nat.{pow-le-pow_right}
-use Rattle.std.proofs.lemmas.List.{drop_more, replicate_more, length_push, length-replicate}
-use Rattle.std.proofs.lemmas.Bool.{lt-ltb, le-ltb, le-leb, lt-leb, leb-true, cases_lt, cond_both}
+use Rattle.std.proofs.Common.{◌≡◌, ℕ, zero, suc, ◌+◌, ◌/◌, ◌%◌, ◌^◌, ◌<◌, ◌≤◌, Bool, true, false, cond, ltb, leb, List, [], ◌∷◌, ◌++◌, length, replicate, Some, None, Option, unwrap_or, sym, refl, ap, ◌∙◌, subst, inl, inr, append_assoc, append-nil, add-zero, pow-suc, zero-add, add-one, arith}
+use Rattle.std.proofs.lemmas.List.{replicate_more, length_push, length-replicate}
+use Rattle.std.proofs.lemmas.Bool.{lt-ltb, le-ltb, le-leb, leb-true, cases_lt, cond_both}
 use Rattle.std.proofs.lemmas.Bool.Decides.{nat_tests}
 use Rattle.columns.specs.Numbers.{and_then, grown, number_after, number_of, number_text, Fits, Holds, NumberSays}
 
@@ -10,18 +9,6 @@ use Rattle.columns.specs.Numbers.{and_then, grown, number_after, number_of, numb
 pub grown_bound : (before after : Option ℕ) (c k : ℕ) → Some after ≡ grown before c → unwrap_or before 0 < 10 ^ k → unwrap_or after 0 < 10 ^ (k + 1)
 grown_bound None after c k e h = let p = pow-suc 10 k in rw (add-one, pow-suc) (grind (arith, nat_tests))
 grown_bound (Some n) after c k e h = rw (add-one, pow-suc) (grind (arith, nat_tests))
-
--- one byte further, where it goes on
-pub step_on : (before after : Option ℕ) (cs : List ℕ) (i : ℕ) → i < length cs → grown before (get_or cs i 0) ≡ Some after → number_after before (drop i cs) ≡ number_after after (drop (i + 1) cs)
-step_on before after cs i h e = rw (drop_more cs i 0 h, number_after, e)
-
--- and where it does not
-pub step_off : (before : Option ℕ) (cs : List ℕ) (i : ℕ) → i < length cs → grown before (get_or cs i 0) ≡ None → number_after before (drop i cs) ≡ None
-step_off before cs i h e = rw (drop_more cs i 0 h, number_after, e)
-
--- a number of at most 18 digits is below the 18th power of ten
-pub below_all : (v k : ℕ) → k ≤ 18 → v < 10 ^ k → v < 10 ^ 18
-below_all v k h l = omega (arith, pow-le-pow_right {n = 10} (omega arith) h)
 
 -- leading spaces say nothing
 blank_read : (k : ℕ) (cs : List ℕ) → number_after None (replicate k 32 ++ cs) ≡ number_after None cs
@@ -94,7 +81,7 @@ suc_over k n v = ap (λ w. number_text w v) (omega arith)
 
 -- what and_then found, and what it went on with
 then_some : {A B : Type 0} (o : Option A) (f : A → Option B) (v : B) → and_then o f ≡ Some v → (x : A) × (o ≡ Some x) × (f x ≡ Some v)
-then_some None f v e = absurd (let z : ◌≡◌ {A = ℕ} 0 1 = cc in omega arith)
+then_some None f v e = absurd cc
 then_some (Some x) f v e = (x, refl, e)
 
 -- bytes that read as v after the digits of m are, behind those, what is written for v
@@ -111,7 +98,7 @@ digits_text (c ∷ cs) k m v h =
 
 -- bytes that read as v after k spaces are, behind those, what is written for v
 column_text : (cs : List ℕ) (k v : ℕ) → number_after None cs ≡ Some v → replicate k 32 ++ cs ≡ number_text (k + length cs) v
-column_text [] k v h = absurd (let z : ◌≡◌ {A = ℕ} 0 1 = cc in omega arith)
+column_text [] k v h = absurd cc
 column_text (c ∷ cs) k v h =
     let g = then_some (grown None c) (λ after. number_after after cs) v h in
     elim g.0 as (λ a. grown None c ≡ Some a → number_after a cs ≡ Some v → replicate k 32 ++ c ∷ cs ≡ number_text (k + suc (length cs)) v) [
@@ -129,13 +116,13 @@ number_below (c ∷ cs) before k v l h =
 
 -- no bytes say no number
 some_bytes : (cs : List ℕ) (v : ℕ) → number_after None cs ≡ Some v → 0 < length cs
-some_bytes [] v h = absurd (let z : ◌≡◌ {A = ℕ} 0 1 = cc in omega arith)
+some_bytes [] v h = absurd cc
 some_bytes (c ∷ cs) v h = omega arith
 
 -- a column of more than 18 bytes says no number
 not_wide : (cs : List ℕ) (v : ℕ) (b : Bool) → cond b (number_after None cs) None ≡ Some v → (b ≡ true) × (number_after None cs ≡ Some v)
 not_wide cs v true e = (refl, e)
-not_wide cs v false e = absurd (let z : ◌≡◌ {A = ℕ} 0 1 = cc in omega arith)
+not_wide cs v false e = absurd cc
 
 -- what reads as v is what is written for v
 pub number_read : (cs : List ℕ) (v : ℕ) → number_of cs ≡ Some v → Holds cs v
@@ -148,12 +135,4 @@ number_read cs v h =
 -- the number that a column says is the one that it holds, and where it says none, it holds none
 pub number_says : (cs : List ℕ) (o : Option ℕ) → o ≡ number_of cs → NumberSays cs o
 number_says cs (Some v) e = number_read cs v (sym e)
-number_says cs None e = λ v h. absurd (let same : None ≡ Some v = e ∙ ap number_of h.1 ∙ number_written (length cs) v h.0 in let z : ◌≡◌ {A = ℕ} 0 1 = cc in omega arith)
-
--- what a narrow column says
-pub narrow_number : (cs : List ℕ) → length cs ≤ 18 → number_after None cs ≡ number_of cs
-narrow_number cs h = rw (le-leb (length cs) 18 h)
-
--- what a column that is too wide says
-pub wide_number : (cs : List ℕ) → 18 < length cs → None ≡ number_of cs
-wide_number cs h = rw (lt-leb (length cs) 18 h)
+number_says cs None e = λ v h. absurd (let same : None ≡ Some v = e ∙ ap number_of h.1 ∙ number_written (length cs) v h.0 in cc)

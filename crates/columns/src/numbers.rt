@@ -1,7 +1,9 @@
 // A number in a column: decimal, right-justified with spaces, with no sign and no leading zero.
-ghost use Rattle.std.specs.Prelude.{◌≡◌, ◌^◌, ◌<◌, ◌≤◌, length, None, MatchBool, nat_lt};
+ghost use Rattle.std.specs.Prelude.{◌≡◌, ◌^◌, ◌<◌, ◌≤◌, length, None, MatchBool, MatchResult};
 ghost use Rattle.std.specs.Option.{unwrap_or};
 ghost use Rattle.columns.specs.Numbers.{grown, number_after, number_of, number_text, Fits, NumberSays};
+
+use crate::no_room::NoRoom;
 
 // The widest column that a number is read from or written to: all its numbers fit 64 bits.
 const WIDEST: usize = 18;
@@ -18,15 +20,15 @@ pub fn number(column: &[u8]) -> Option<u64>
     }
 }
 
-// Fills a column of any width with a number; false, and nothing is written, where it has no room.
-pub fn put_number(column: &mut [u8], value: u64) -> bool
-    ensures { MatchBool result (Fits (length column.old) value × (column.new ≡ number_text (length column.old) value)) ((Fits (length column.old) value → ⊥) × (column.new ≡ column.old)) }
+// Fills a column of any width with a number; where it has no room, nothing is written.
+pub fn put_number(column: &mut [u8], value: u64) -> Result<(), NoRoom>
+    ensures { MatchResult result (λ _. Fits (length column.old) value × (column.new ≡ number_text (length column.old) value)) (λ _. (Fits (length column.old) value → ⊥) × (column.new ≡ column.old)) }
 {
-    if column.is_empty() || column.len() > WIDEST || !fits(column.len(), value) {
-        return false;
+    if !fits(column.len(), value) {
+        return Err(NoRoom);
     }
     put_digits(column, value);
-    true
+    Ok(())
 }
 
 // What a number's bytes say with one more of them: `None` before the first digit.
@@ -42,7 +44,8 @@ fn digit_after(before: Option<u64>, byte: u8) -> Option<Option<u64>>
     }
 }
 
-// The number that the bytes of a column say.
+// The number that the bytes of a column say. (A fold does not tell its closure how many digits stand
+// before a byte, and so not that ten times their number fits.)
 fn digits(column: &[u8]) -> Option<u64>
     requires { length column.now ≤ 18 }
     ensures { result ≡ number_after None column.now }
@@ -54,32 +57,25 @@ fn digits(column: &[u8]) -> Option<u64>
     value
 }
 
-// Whether a number has at most so many digits.
+// Whether a column of so many bytes has room for a number.
 fn fits(width: usize, value: u64) -> bool
-    ensures { result ≡ nat_lt value (10 ^ width) }
+    ensures { MatchBool result (Fits width value) (Fits width value → ⊥) }
 {
-    let mut rest = value;
-    for _ in 0..width {
-        rest /= 10;
-    }
-    rest == 0
+    (1..=WIDEST).contains(&width) && value < 10u64.pow(width as u32)
 }
 
-// Fills a column with a number that has room there.
+// Fills a column with a number that has room there: its last digit stands last, and the rest before it.
 fn put_digits(column: &mut [u8], value: u64)
-    requires some { 0 < length column.old }
-    requires room { value < 10 ^ length column.old }
+    requires { value < 10 ^ length column.old }
     ensures { column.new ≡ number_text (length column.old) value }
 {
-    column.fill(b' ');
-    let mut rest = value;
-    let mut i = column.len();
-    loop {
-        i -= 1;
-        column[i] = b'0' + (rest % 10) as u8;
-        rest /= 10;
-        if rest == 0 {
-            break;
-        }
+    let Some((last, front)) = column.split_last_mut() else {
+        return;
+    };
+    *last = b'0' + (value % 10) as u8;
+    if value < 10 {
+        front.fill(b' ');
+    } else {
+        put_digits(front, value / 10);
     }
 }

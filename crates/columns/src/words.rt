@@ -1,7 +1,10 @@
 // A word in a column: left-justified, with spaces behind it.
-ghost use Rattle.std.specs.Prelude.{◌≡◌, ◌<◌, ◌≤◌, length, replicate, MatchBool};
+ghost use Rattle.std.specs.Prelude.{◌≡◌, ◌<◌, ◌≤◌, length, ◌==◌, MatchResult};
+ghost use Rattle.std.specs.List.{list_all};
 ghost use Rattle.std.specs.Str.{bytes_eq};
 ghost use Rattle.columns.specs.Words.{name_of, word_text};
+
+use crate::no_room::NoRoom;
 
 // The words of pages.
 #[derive(Clone, Copy, PartialEq, Eq, Debug)]
@@ -40,35 +43,25 @@ impl Word {
 pub fn holds(column: &[u8], word: Word) -> bool
     ensures { result ≡ bytes_eq column.now (word_text (length column.now) word) }
 {
-    let name = word.name();
-    if column.len() < name.len() {
-        return false;
-    }
-    let (front, back) = column.split_at(name.len());
-    front == name && blank(back)
+    column.strip_prefix(word.name()).is_some_and(blank)
 }
 
-// Fills a column of any width with a word; false, and nothing is written, where it has no room.
-pub fn put_word(column: &mut [u8], word: Word) -> bool
-    ensures { MatchBool result ((length (name_of word) ≤ length column.old) × (column.new ≡ word_text (length column.old) word)) ((length column.old < length (name_of word)) × (column.new ≡ column.old)) }
+// Fills a column of any width with a word; where it has no room, nothing is written.
+pub fn put_word(column: &mut [u8], word: Word) -> Result<(), NoRoom>
+    ensures { MatchResult result (λ _. (length (name_of word) ≤ length column.old) × (column.new ≡ word_text (length column.old) word)) (λ _. (length column.old < length (name_of word)) × (column.new ≡ column.old)) }
 {
     let name = word.name();
-    if column.len() < name.len() {
-        return false;
-    }
-    column.fill(b' ');
-    column[0..name.len()].copy_from_slice(name);
-    true
+    let Some((letters, spaces)) = column.split_at_mut_checked(name.len()) else {
+        return Err(NoRoom);
+    };
+    letters.copy_from_slice(name);
+    spaces.fill(b' ');
+    Ok(())
 }
 
 // Whether there are only spaces.
 fn blank(bytes: &[u8]) -> bool
-    ensures { result ≡ bytes_eq bytes.now (replicate (length bytes.now) 32) }
+    ensures { result ≡ list_all (λ b. b == 32) bytes.now }
 {
-    for byte in bytes {
-        if *byte != b' ' {
-            return false;
-        }
-    }
-    true
+    bytes.iter().all(|byte| *byte == b' ')
 }

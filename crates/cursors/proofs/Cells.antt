@@ -4,6 +4,7 @@ use Rattle.std.specs.Option.{option_map, ok_or}
 use Rattle.std.specs.Str.{bytes_eq}
 use Rattle.std.proofs.lemmas.Slice.Eq.{bytes_eq-Decides}
 use Rattle.std.proofs.lemmas.List.{take-append-drop, length-take-le, length-append, take_at, drop_at}
+use Rattle.std.proofs.lemmas.Option.{cond_some}
 use Rattle.std.proofs.lemmas.Bool.{cases_Bool, leb-true, le-leb, eqb-true}
 use Rattle.std.proofs.lemmas.Bool.Decides.{nat_tests}
 use Rattle.limits.specs.Limits.{column_bytes}
@@ -22,18 +23,9 @@ use Rattle.cursors.proofs.Read.{Reads, Anything, never, go_on_got, got_parts}
 -- a column is what it has, and then what lies behind it
 block_some : (w : ℕ) (p : Spot) (bs : List ℕ) → block w p ≡ Some bs → (p.rest ≡ bs ++ (past w p).rest) × (length bs ≡ w)
 unfolding block past
-block_some w p bs e = elim (cases_Bool (leb w (length p.rest))) [
-  | inl t ↦
-      let same : take w p.rest ≡ bs = some_is _ bs (rw t at e) in
-      (rw (← same) (sym (take-append-drop w p.rest)), rw (← same) (length-take-le w p.rest (leb-true w _ t)))
-  | inr f ↦ absurd (none_is bs (rw f at e))
-]
-  where
-    some_is : (xs ys : List ℕ) → Some xs ≡ Some ys → xs ≡ ys
-    some_is xs ys e = cc
-
-    none_is : (ys : List ℕ) → None ≡ Some ys → ⊥
-    none_is ys e = let z : ◌≡◌ {A = ℕ} 0 1 = cc in omega arith
+block_some w p bs e =
+    let g = cond_some (leb w (length p.rest)) (take w p.rest) bs e in
+    (rw (← g.1) (sym (take-append-drop w p.rest)), rw (← g.1) (length-take-le w p.rest (leb-true w _ g.0)))
 
 -- bytes of the width of a column are that column
 block_text : (w : ℕ) (p : Spot) (bs rest : List ℕ) → length bs ≡ w → p.rest ≡ bs ++ rest → (block w p ≡ Some bs) × ((past w p).rest ≡ rest)

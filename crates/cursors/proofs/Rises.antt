@@ -1,11 +1,10 @@
 -- Seats that rise, and the set that they make: the loop that reads them. Assumes nothing.
-use Rattle.std.proofs.Common.{◌≡◌, ℕ, ◌+◌, ◌-◌, ◌^◌, ◌<◌, ◌≤◌, min, List, [], ◌∷◌, ◌++◌, sym, ap, ◌∙◌, inl, inr, arith}
-use Rattle.limits.specs.Limits.{most_seats}
+use Rattle.std.proofs.Common.{◌≡◌, ℕ, ◌+◌, ◌-◌, ◌^◌, ◌<◌, ◌≤◌, List, [], ◌∷◌, ◌++◌, sym, ap, ◌∙◌, inl, inr, arith}
 use Rattle.seats.specs.Sets.{In, Inserted}
 use Rattle.seats.specs.Lists.{seats_of, set_of}
 use Rattle.seats.proofs.Listing.{seats_of_none, seats_more, set_of_seats}
-use Rattle.cursors.specs.Lists.{rising, seat_set}
-use Rattle.cursors.specs.Steps.{Spot, Outcome, got, Step, go_on, ◌▸◌, done, seat}
+use Rattle.cursors.specs.Lists.{rising}
+use Rattle.cursors.specs.Steps.{Spot, Outcome, got, Step, go_on, done, seat}
 use Rattle.cursors.proofs.Cells.{seat_bounds}
 use Rattle.cursors.proofs.Chained.{onward, onward_none, onward_turn}
 
@@ -36,7 +35,3 @@ module _ (n low set after v : ℕ) (p q : Spot) (few : n ≤ 64) (small : set < 
 -- the set is that of the seats found
 pub set_found : (set : ℕ) (p : Spot) (o : Outcome (List ℕ)) → set < 2 ^ 64 → got (seats_of set) p ≡ o → got set p ≡ go_on o (λ xs. done (set_of xs))
 set_found set p o small e = ap (λ s. got s p) (sym (set_of_seats set small)) ∙ ap (λ r. go_on r (λ xs. done (set_of xs))) e
-
--- of all n seats, or of 64 where there are more
-pub as_set : (n m size : ℕ) (p : Spot) → m ≡ min n most_seats → (rising m size ▸ λ xs. done (set_of xs)) p ≡ seat_set n size p
-as_set n m size p e = ap (λ k. (rising k size ▸ λ xs. done (set_of xs)) p) e

@@ -1,7 +1,10 @@
 -- Reading from left to right: a step takes a spot in a page, and answers what it found and the next spot, or a fault. Assumes nothing.
 use Rattle.std.specs.Prelude.{ℕ, ◌+◌, Bool, false, cond, ◌&&◌, ltb, List, length, take, drop, Some, None, Ok, Err, Option, Result, ◌==◌, nat_le, nat_lt, slice_index}
 use Rattle.std.specs.Option.{option_map, unwrap_or, ok_or}
+use Rattle.std.specs.Ordering.{nat_cmp, as_partial_cmp}
+use Rattle.std.specs.Range.Bound.{bounds_contain}
 use Rattle.std.specs.Str.{bytes_eq}
+use Rattle.std.specs.declared.ops.Bound.{Bound}
 use Rattle.limits.specs.Limits.{column_bytes}
 use Rattle.faults.specs.declared.Fault.{Fault}
 use Rattle.faults.specs.declared.Reason.{Reason}
@@ -10,7 +13,6 @@ use Rattle.faults.specs.Places.{fault_on_page}
 use Rattle.columns.specs.declared.words.Word.{Word}
 use Rattle.columns.specs.Numbers.{and_then, number_of}
 use Rattle.columns.specs.Rows.{word_column}
-use Rattle.cursors.specs.declared.cursor.Cursor.{Cursor}
 
 -- what is left of a page, and the line and the column that come next
 pub record Spot : Type 0 where
@@ -72,6 +74,10 @@ tested good otherwise p (Ok v) = cond (good v) (got v (past column_bytes p)) (re
 abbrev pub field : (ℕ → Bool) → Reason → Step ℕ
 field good otherwise p = tested good otherwise p (shown p)
 
+-- whether a number lies between the ends of a range
+abbrev pub lies : Bound ℕ → Bound ℕ → ℕ → Bool
+lies start end = bounds_contain (as_partial_cmp nat_cmp) start end
+
 -- a number from low to high
 abbrev pub number : ℕ → ℕ → Step ℕ
 number low high = field (λ v. nat_le low v && nat_le v high) NumberBeyondLimits
@@ -100,6 +106,11 @@ line_end p = cond (slice_index p.rest 0 == 10) (got tt (below p)) (refused (here
 abbrev pub closed : Bool → Reason → Step (Unit {0})
 closed sound otherwise p = go_on (line_end p) (λ _ q. cond sound (got tt q) (refused (fault_on_page otherwise p.line 0)))
 
+-- the same, by what is wrong with the columns, if anything is
+abbrev pub flawed : Option Reason → Step (Unit {0})
+flawed None = line_end
+flawed (Some reason) = closed false reason
+
 -- the end of a page
 abbrev pub page_end : Step (Unit {0})
 page_end p = cond (length p.rest == 0) (got tt p) (refused (here Layout p))
@@ -108,10 +119,11 @@ page_end p = cond (length p.rest == 0) (got tt p) (refused (here Layout p))
 abbrev pub start : List ℕ → Spot
 start page = record { rest = page; line = 1; column = 1 }
 
--- where a cursor stands, and what a call answered together with where the cursor then stands
-abbrev pub spot : Cursor → Spot
-spot c = record { rest = c.rest.now; line = c.line; column = c.column }
+-- what a call answered, seen by what it says, together with where the cursor then stands
+abbrev pub outcome_by : {A B : Type 0} → (A → B) → Result A Fault → Spot → Outcome B
+outcome_by view (Ok x) p = got (view x) p
+outcome_by view (Err e) p = refused e
 
-abbrev pub outcome : {A : Type 0} → Result A Fault → Cursor → Outcome A
-outcome (Ok x) c = got x (spot c)
-outcome (Err e) c = refused e
+-- the same, seen as it is
+abbrev pub outcome : {A : Type 0} → Result A Fault → Spot → Outcome A
+outcome = outcome_by (λ x. x)

@@ -3,6 +3,8 @@
 
 pub mod cursor;
 mod lists;
+pub mod numbers;
 mod steps;
 
 pub use cursor::Cursor;
+pub use numbers::Number;

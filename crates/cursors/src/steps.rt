@@ -1,18 +1,20 @@
 // The steps of a reader: each takes what comes next from a cursor, or refuses it with a fault.
-ghost use Rattle.std.specs.Prelude.{◌≡◌, ◌≤◌, true, length, IfSome, OnOk, ◌==◌, slice_index};
-ghost use Rattle.std.specs.Option.{option_map};
-ghost use Rattle.cursors.specs.Steps.{start, block, past, below, here, shown, number, number_below, seat, word, at_word, line_end, closed, page_end, spot, outcome};
+ghost use Rattle.std.specs.Prelude.{◌≡◌, ℕ, ◌≤◌, true, false, length, MatchOption, MatchResult, ◌==◌, slice_index};
+ghost use Rattle.limits.specs.Limits.{column_bytes};
+ghost use Rattle.cursors.specs.Steps.{start, block, past, below, here, shown, lies, field, number, number_below, seat, word, at_word, line_end, flawed, page_end, outcome, outcome_by};
 
 use crate::cursor::Cursor;
+use crate::numbers::Number;
 use columns::Word;
 use faults::{Fault, Reason};
 use limits::COLUMN_BYTES;
+use std::ops::RangeBounds;
 
 impl<'a> Cursor<'a> {
     // A cursor at the first byte of a page that is not too long.
     pub fn open(page: &'a [u8]) -> Cursor<'a>
         requires { length page.now ≤ 32768 }
-        ensures { spot result ≡ start page.now }
+        ensures { result ≡ start page.now }
     {
         Cursor {
             rest: page,
@@ -23,164 +25,141 @@ impl<'a> Cursor<'a> {
 
     // A fault at the column that comes next.
     fn fault(&self, reason: Reason) -> Fault
-        ensures { result ≡ here reason (spot self.now) }
+        ensures { result ≡ here reason self.now }
     {
         Fault::on_page(reason, self.line, self.column)
     }
 
-    // The next column, where so many bytes are left.
-    fn block(&self, width: usize) -> Option<&'a [u8]>
-        ensures value { option_map (λ x. x.now) result ≡ block width (spot self.now) }
-        ensures wide { IfSome result (λ x. (length x.now ≡ width) × (width ≤ length self.now.rest.now)) }
+    // The next column, and the cursor behind it, where so many bytes are left.
+    fn next_column(&self) -> Option<(&'a [u8], Cursor<'a>)>
+        ensures { MatchOption result (block column_bytes self.now ≡ None) (λ p. (block column_bytes self.now ≡ Some p.0.now) × (length p.0.now ≡ column_bytes) × (p.1 ≡ past column_bytes self.now)) }
     {
-        if self.rest.len() < width {
-            None
-        } else {
-            Some(&self.rest[0..width])
-        }
-    }
-
-    // Goes on behind a column.
-    fn pass(&mut self, width: usize)
-        requires { (width ≤ length self.old.rest.now) × (1 ≤ width) }
-        ensures { spot self.new ≡ past width (spot self.old) }
-    {
-        self.rest = &self.rest[width..];
-        self.column += 1;
-    }
-
-    // Goes on behind the end of a line.
-    fn descend(&mut self)
-        requires { 1 ≤ length self.old.rest.now }
-        ensures { spot self.new ≡ below (spot self.old) }
-    {
-        self.rest = &self.rest[1..];
-        self.line += 1;
-        self.column = 1;
-    }
-
-    // Whether a line feed comes next.
-    fn at_line_end(&self) -> bool
-        ensures value { result ≡ (slice_index self.now.rest.now 0 == 10) }
-        ensures some { result ≡ true → 1 ≤ length self.now.rest.now }
-    {
-        !self.rest.is_empty() && self.rest[0] == b'\n'
-    }
-
-    // The number in the next column.
-    fn shown(&self) -> Result<u64, Fault>
-        ensures value { result ≡ shown (spot self.now) }
-        ensures wide { OnOk result (6 ≤ length self.now.rest.now) }
-    {
-        let Some(column) = self.block(COLUMN_BYTES) else {
-            return Err(self.fault(Reason::Layout));
+        let (column, rest) = self.rest.split_at_checked(COLUMN_BYTES)?;
+        let behind = Cursor {
+            rest,
+            line: self.line,
+            column: self.column + 1,
         };
-        match columns::number(column) {
-            Some(value) => Ok(value),
-            None => Err(self.fault(Reason::Layout)),
+        Some((column, behind))
+    }
+
+    // The cursor behind the end of a line, where a line feed comes next.
+    fn next_line(&self) -> Option<Cursor<'a>>
+        ensures { MatchOption result ((slice_index self.now.rest 0 == 10) ≡ false) (λ c. ((slice_index self.now.rest 0 == 10) ≡ true) × (c ≡ below self.now)) }
+    {
+        let rest = self.rest.strip_prefix(b"\n")?;
+        Some(Cursor {
+            rest,
+            line: self.line + 1,
+            column: 1,
+        })
+    }
+
+    // The number in the next column, and the cursor behind it.
+    fn shown(&self) -> Result<(u64, Cursor<'a>), Fault>
+        ensures { MatchResult result (λ p. (shown self.now ≡ Ok p.0) × (p.1 ≡ past column_bytes self.now)) (λ e. shown self.now ≡ Err e) }
+    {
+        let layout = self.fault(Reason::Layout);
+        let (column, behind) = self.next_column().ok_or(layout)?;
+        let value = columns::number(column).ok_or(layout)?;
+        Ok((value, behind))
+    }
+
+    // A number that lies in a range, or else this fault.
+    fn within<N: Number, R: RangeBounds<u64>>(
+        &mut self,
+        range: R,
+        otherwise: Reason,
+    ) -> Result<N, Fault>
+        requires known { R.has_bounds range }
+        requires narrow { (v : ℕ) → lies (R.start_bound range) (R.end_bound range) v ≡ true → v ≤ N.greatest }
+        ensures { outcome_by N.value result self.new ≡ field (lies (R.start_bound range) (R.end_bound range)) otherwise self.old }
+    {
+        let (value, behind) = self.shown()?;
+        match N::narrow(value) {
+            Some(number) if range.contains(&value) => {
+                *self = behind;
+                Ok(number)
+            }
+            _ => Err(self.fault(otherwise)),
         }
     }
 
     // A number from `low` to `high`.
-    pub fn number(&mut self, low: u32, high: u32) -> Result<u32, Fault>
-        ensures { outcome result self.new ≡ number low high (spot self.old) }
+    pub fn number<N: Number>(&mut self, low: N, high: N) -> Result<N, Fault>
+        ensures { outcome_by N.value result self.new ≡ number (N.value low) (N.value high) self.old }
     {
-        let value = self.shown()?;
-        if value < u64::from(low) || value > u64::from(high) {
-            return Err(self.fault(Reason::NumberBeyondLimits));
-        }
-        self.pass(COLUMN_BYTES);
-        Ok(value as u32)
-    }
-
-    // A small number from `low` to `high`.
-    pub fn small(&mut self, low: u8, high: u8) -> Result<u8, Fault>
-        ensures { outcome result self.new ≡ number low high (spot self.old) }
-    {
-        let value = self.shown()?;
-        if value < u64::from(low) || value > u64::from(high) {
-            return Err(self.fault(Reason::NumberBeyondLimits));
-        }
-        self.pass(COLUMN_BYTES);
-        Ok(value as u8)
+        self.within(low.wide()..=high.wide(), Reason::NumberBeyondLimits)
     }
 
     // A small number below `end`.
     pub fn below(&mut self, end: u8) -> Result<u8, Fault>
-        ensures { outcome result self.new ≡ number_below end (spot self.old) }
+        ensures { outcome result self.new ≡ number_below end self.old }
     {
-        let value = self.shown()?;
-        if value >= u64::from(end) {
-            return Err(self.fault(Reason::NumberBeyondLimits));
-        }
-        self.pass(COLUMN_BYTES);
-        Ok(value as u8)
+        self.within(..u64::from(end), Reason::NumberBeyondLimits)
     }
 
     // A seat from `low` on, of the `n` that there are.
     pub fn seat(&mut self, low: u8, n: u8) -> Result<u8, Fault>
-        ensures { outcome result self.new ≡ seat low n (spot self.old) }
+        ensures { outcome result self.new ≡ seat low n self.old }
     {
-        let value = self.shown()?;
-        if value < u64::from(low) || value >= u64::from(n) {
-            return Err(self.fault(Reason::ListNotRising));
-        }
-        self.pass(COLUMN_BYTES);
-        Ok(value as u8)
+        self.within(u64::from(low)..u64::from(n), Reason::ListNotRising)
+    }
+
+    // The cursor behind the word, where the next column holds it.
+    fn behind_word(&self, expected: Word) -> Option<Cursor<'a>>
+        ensures { MatchOption result (at_word expected self.now ≡ false) (λ c. (at_word expected self.now ≡ true) × (c ≡ past column_bytes self.now)) }
+    {
+        let (column, behind) = self.next_column()?;
+        columns::holds(column, expected).then_some(behind)
     }
 
     // Whether the next column holds the word.
     pub fn at_word(&self, expected: Word) -> bool
-        ensures value { result ≡ at_word expected (spot self.now) }
-        ensures wide { result ≡ true → 6 ≤ length self.now.rest.now }
+        ensures value { result ≡ at_word expected self.now }
+        ensures wide { result ≡ true → 6 ≤ length self.now.rest }
     {
-        match self.block(COLUMN_BYTES) {
-            Some(column) => columns::holds(column, expected),
-            None => false,
-        }
+        self.behind_word(expected).is_some()
     }
 
     // A word that has to stand here.
     pub fn word(&mut self, expected: Word) -> Result<(), Fault>
-        ensures { outcome result self.new ≡ word expected (spot self.old) }
+        ensures { outcome result self.new ≡ word expected self.old }
     {
-        if !self.at_word(expected) {
-            return Err(self.fault(Reason::Layout));
-        }
-        self.pass(COLUMN_BYTES);
+        *self = self
+            .behind_word(expected)
+            .ok_or(self.fault(Reason::Layout))?;
         Ok(())
     }
 
     // The end of a line.
     pub fn end_line(&mut self) -> Result<(), Fault>
-        ensures { outcome result self.new ≡ line_end (spot self.old) }
+        ensures { outcome result self.new ≡ line_end self.old }
     {
-        if !self.at_line_end() {
-            return Err(self.fault(Reason::Layout));
-        }
-        self.descend();
+        *self = self.next_line().ok_or(self.fault(Reason::Layout))?;
         Ok(())
     }
 
     // The end of a line whose columns have to fit together: where they do not, a fault at its column 0.
-    pub fn close_line(&mut self, sound: bool, otherwise: Reason) -> Result<(), Fault>
-        ensures { outcome result self.new ≡ closed sound otherwise (spot self.old) }
+    pub fn close_line(&mut self, flaw: Option<Reason>) -> Result<(), Fault>
+        ensures { outcome result self.new ≡ flawed flaw self.old }
     {
         let line = self.line;
         self.end_line()?;
-        if !sound {
-            return Err(Fault::on_page(otherwise, line, 0));
+        match flaw {
+            None => Ok(()),
+            Some(reason) => Err(Fault::on_page(reason, line, 0)),
         }
-        Ok(())
     }
 
     // The end of the page.
     pub fn end_page(&self) -> Result<(), Fault>
-        ensures { outcome result self.now ≡ page_end (spot self.now) }
+        ensures { outcome result self.now ≡ page_end self.now }
     {
-        if !self.rest.is_empty() {
-            return Err(self.fault(Reason::Layout));
+        if self.rest.is_empty() {
+            Ok(())
+        } else {
+            Err(self.fault(Reason::Layout))
         }
-        Ok(())
     }
 }

@@ -1,13 +1,7 @@
 -- What a call answered, seen by what it says. Assumes nothing.
 use Rattle.std.specs.Prelude.{Ok, Err, Result}
 use Rattle.faults.specs.declared.Fault.{Fault}
-use Rattle.cursors.specs.declared.cursor.Cursor.{Cursor}
-use Rattle.cursors.specs.Steps.{Outcome, got, refused, spot}
-
--- what a call answered, together with where the cursor then stands
-abbrev pub outcome_by : {A B : Type 0} → (A → B) → Result A Fault → Cursor → Outcome B
-outcome_by view (Ok x) c = got (view x) (spot c)
-outcome_by view (Err e) c = refused e
+use Rattle.cursors.specs.Steps.{Outcome, got, refused}
 
 -- what a call answered
 abbrev pub answer_by : {A B : Type 0} → (A → B) → Result A Fault → Result B Fault

@@ -1,9 +1,8 @@
 // Lines of one kind, read into room that is there.
 ghost use Rattle.std.specs.Prelude.{◌≡◌, ℕ, vec_items};
 ghost use Rattle.cursors.specs.Lists.{numbered};
-ghost use Rattle.cursors.specs.Steps.{Step, spot, outcome};
+ghost use Rattle.cursors.specs.Steps.{Step, outcome, outcome_by};
 ghost use Rattle.readings.specs.Rooms.{Roomy};
-ghost use Rattle.reader.specs.Views.{outcome_by};
 
 use cursors::Cursor;
 use faults::Fault;
@@ -13,7 +12,7 @@ pub trait Line: Sized {
     ghost line: { ℕ → ℕ → Step Self };
 
     fn read(cursor: &mut Cursor<'_>, bound: u8, index: u32) -> Result<Self, Fault>
-        ensures { outcome result cursor.new ≡ line bound index (spot cursor.old) };
+        ensures { outcome result cursor.new ≡ line bound index cursor.old };
 }
 
 // So many lines.
@@ -24,7 +23,7 @@ pub fn lines<L: Line + Drop>(
     count: u32,
 ) -> Result<Vec<L>, Fault>
     requires { Roomy count room }
-    ensures { outcome_by vec_items result cursor.new ≡ numbered (L.Line.line bound) count 0 (spot cursor.old) }
+    ensures { outcome_by vec_items result cursor.new ≡ numbered (L.Line.line bound) count 0 cursor.old }
 {
     let mut rows = room;
     for index in 0..count {

@@ -11,10 +11,10 @@ impl Line for Turn {
     ghost line = { turn_line };
 
     fn read(cursor: &mut Cursor<'_>, bound: u8, _index: u32) -> Result<Turn, Fault> {
-        let need = cursor.small(0, MOST_NEED)?;
-        let size = cursor.small(0, bound)?;
+        let need = cursor.number(0, MOST_NEED)?;
+        let size = cursor.number(0, bound)?;
         let licensed = cursor.seat_set(bound, size)?;
-        cursor.close_line(need <= size, Reason::FewerLicensed)?;
+        cursor.close_line((need > size).then_some(Reason::FewerLicensed))?;
         Ok(Turn { need, licensed })
     }
 }
@@ -26,7 +26,7 @@ impl Line for Leg {
         let a = cursor.seat(0, bound)?;
         let b = cursor.seat(0, bound)?;
         let passages = cursor.number(1, MOST_PASSAGES)?;
-        cursor.close_line(a != b, Reason::EndsEqual)?;
+        cursor.close_line((a == b).then_some(Reason::EndsEqual))?;
         Ok(Leg { a, b, passages })
     }
 }
@@ -38,15 +38,11 @@ impl Line for Group {
     fn read(cursor: &mut Cursor<'_>, bound: u8, index: u32) -> Result<Group, Fault> {
         let parent = cursor.below(bound)?;
         let lo = cursor.number(0, MOST_IN_NEST)?;
-        let least = if index == 0 { lo } else { 0 };
-        let most = if index == 0 { lo } else { MOST_IN_NEST };
-        let hi = cursor.number(least, most)?;
-        let lower = if index == 0 {
-            parent == 0
-        } else {
-            u32::from(parent) < index
+        let (hi, lower) = match index {
+            0 => (cursor.number(lo, lo)?, parent == 0),
+            _ => (cursor.number(0, MOST_IN_NEST)?, u32::from(parent) < index),
         };
-        cursor.close_line(lower, Reason::ParentNotLower)?;
+        cursor.close_line((!lower).then_some(Reason::ParentNotLower))?;
         Ok(Group { parent, lo, hi })
     }
 }

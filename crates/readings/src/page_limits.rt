@@ -18,7 +18,9 @@ pub struct PageLimits {
 impl PageLimits {
     // The limits of the pilot stations.
     pub fn stations() -> PageLimits
-        ensures { (result.seats ≡ most_seats) × ((result.turns ≡ most_turns) × (result.legs ≡ most_legs)) }
+        ensures seats { result.seats ≡ most_seats }
+        ensures turns { result.turns ≡ most_turns }
+        ensures legs { result.legs ≡ most_legs }
     {
         PageLimits {
             seats: MOST_SEATS,

@@ -34,23 +34,15 @@ pub struct Room {
 impl Room {
     // The one call that may want for memory.
     pub fn new(heap: Global) -> Result<Room, AllocError> {
-        let turns = Vec::with_capacity(heap, MOST_TURNS)?;
-        let legs = Vec::with_capacity(heap, MOST_LEGS)?;
-        let groups = Vec::with_capacity(heap, MOST_GROUPS as usize)?;
-        let ranges = Vec::with_capacity(heap, MOST_SEATS as usize)?;
-        let carries = Vec::with_capacity(heap, MOST_ORDERS)?;
-        let caps = Vec::with_capacity(heap, MOST_ORDERS)?;
-        let favours = Vec::with_capacity(heap, MOST_ORDERS)?;
-        let shares = Vec::with_capacity(heap, MOST_ORDERS)?;
         Ok(Room {
-            turns,
-            legs,
-            groups,
-            ranges,
-            carries,
-            caps,
-            favours,
-            shares,
+            turns: Vec::with_capacity(heap, MOST_TURNS)?,
+            legs: Vec::with_capacity(heap, MOST_LEGS)?,
+            groups: Vec::with_capacity(heap, usize::from(MOST_GROUPS))?,
+            ranges: Vec::with_capacity(heap, usize::from(MOST_SEATS))?,
+            carries: Vec::with_capacity(heap, MOST_ORDERS)?,
+            caps: Vec::with_capacity(heap, MOST_ORDERS)?,
+            favours: Vec::with_capacity(heap, MOST_ORDERS)?,
+            shares: Vec::with_capacity(heap, MOST_ORDERS)?,
         })
     }
 }

@@ -2,7 +2,6 @@
 ghost use Rattle.std.specs.Prelude.{length};
 ghost use Rattle.readings.specs.Weights.{LastCounts};
 
-use crate::orders::ShareOrder;
 use crate::reading::Reading;
 
 impl Reading {
@@ -10,18 +9,8 @@ impl Reading {
     pub fn weight(&self, seat: u8) -> u32
         ensures { LastCounts self.now.orders.shares.items (length self.now.orders.shares.items) seat result }
     {
-        last_weight(self.orders.shares.as_slice(), seat)
+        let shares = self.orders.shares.as_slice();
+        let last = shares.iter().rposition(|share| share.seat == seat);
+        last.map_or(1, |line| shares[line].weight)
     }
-}
-
-fn last_weight(shares: &[ShareOrder], seat: u8) -> u32
-    ensures { LastCounts shares.now (length shares.now) seat result }
-{
-    let mut weight = 1;
-    for share in shares {
-        if share.seat == seat {
-            weight = share.weight;
-        }
-    }
-    weight
 }
