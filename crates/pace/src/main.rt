@@ -7,6 +7,7 @@ use faults::Fault;
 use grades::Whole;
 use legs::{Leg, LegTable};
 use levels::level;
+use limits::MOST_STEPS;
 use std::io;
 use std::time::Instant;
 
@@ -41,11 +42,9 @@ fn pace(rt: &HostRuntime, name: &str, legs: Vec<Leg>) -> anyhow::Result<()> {
 
 fn report(rt: &HostRuntime, name: &str, table: LegTable, start: Instant) -> io::Result<()> {
     let mut legs = Divided::over(table);
-    let steps = match level(&mut legs, &Whole, 999_999) {
-        Ok(Some(steps)) => steps,
-        Ok(None) => 999_999,
-        Err(_) => 0,
-    };
+    // the whole budget where it is spent, and none where the levelling is refused
+    let steps = level(&mut legs, &Whole, MOST_STEPS)
+        .map_or(0, |steps| steps.unwrap_or(MOST_STEPS));
     let elapsed = start.elapsed(rt)?;
     println!(rt; "{name}: {steps} steps")?;
     if steps > 0 {

@@ -6,8 +6,8 @@ use Rattle.columns.specs.declared.words.Word.{Word}
 use Rattle.columns.specs.declared.words.Word.TheVariants as word
 use Rattle.columns.specs.Rows.{row, line}
 use Rattle.legs.specs.declared.leg.Leg.{Leg}
-use Rattle.readings.specs.declared.orders.Aim.{Aim}
-use Rattle.readings.specs.declared.orders.Aim.TheVariants.{Most, Least}
+use Rattle.grades.specs.declared.favour.Aim.{Aim}
+use Rattle.grades.specs.declared.favour.Aim.TheVariants.{Most, Least}
 use Rattle.readings.specs.declared.orders.CapOrder.{CapOrder}
 use Rattle.readings.specs.declared.orders.CarryOrder.{CarryOrder}
 use Rattle.readings.specs.declared.orders.FavourOrder.{FavourOrder}

@@ -10,8 +10,9 @@ pub mod rows;
 mod weights;
 
 pub use bottom::Bottom;
+pub use grades::Aim;
 pub use legs::Leg;
-pub use orders::{Aim, CapOrder, CarryOrder, FavourOrder, Orders, ShareOrder};
+pub use orders::{CapOrder, CarryOrder, FavourOrder, Orders, ShareOrder};
 pub use page_limits::PageLimits;
 pub use reading::Reading;
 pub use room::Room;

@@ -1,4 +1,5 @@
 // The orders of a page, kind by kind, each kind in the order of the page.
+use grades::Aim;
 
 // Carries a number for a seat.
 #[derive(Clone, Copy, PartialEq, Eq, Debug)]
@@ -13,13 +14,6 @@ pub struct CapOrder {
     pub seat: u8,
     pub lo: u32,
     pub hi: u32,
-}
-
-// Whether a favoured set is to be given most or least.
-#[derive(Clone, Copy, PartialEq, Eq, Debug)]
-pub enum Aim {
-    Most,
-    Least,
 }
 
 // Favours a set of seats.
