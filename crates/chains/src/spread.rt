@@ -58,6 +58,7 @@ impl Spread {
             seen: with(0, i),
             marks: [Mark { from: 0, far: 0 }; 64],
         };
+        // the edge of one turn comes from the turn before, so no iterator gives it beforehand
         let mut edge = spread.seen;
         let mut depth = 0;
         while edge != 0 {

@@ -31,8 +31,5 @@ fn beats<B: Fn(u8, u8) -> bool>(better: &B, i: u8, best: Option<u8>) -> bool
     requires { B.IsAlwaysCallable better.now }
     ensures { (before : ℕ → ℕ → Bool) → Compares (B.post better.now) before → i < 64 → IfSome best (λ b. b < 64) → result ≡ beats_best (before i) best }
 {
-    match best {
-        None => true,
-        Some(b) => better(i, b),
-    }
+    best.is_none_or(|b| better(i, b))
 }
