@@ -1,23 +1,21 @@
 -- Counting the different loads from the highest down.
-use Rattle.std.proofs.Common.{◌≡◌, ℕ, zero, suc, ◌+◌, ◌<◌, ◌≤◌, Option, None, Some, MatchOption, Bool, true, false, cond, not, ◌&&◌, ◌||◌, eqb, ltb, List, [], ◌∷◌, length, get_or, sym, refl, ap, ◌∙◌, subst, ap₂, ⊎_elim, arith}
-use Rattle.std.proofs.lemmas.Bool.{cases_lt, cases_eq, cases_Bool, eqb-true, eq-eqb, lt-ltb, le-ltb, or_cases, or_left, or_right, both_ways}
+use Rattle.std.proofs.Common.{◌≡◌, ℕ, zero, suc, ◌+◌, ◌<◌, ◌≤◌, Option, None, Some, MatchOption, Bool, true, false, cond, not, ◌&&◌, eqb, ltb, List, [], ◌∷◌, length, get_or, sym, refl, ap, ◌∙◌, subst, ⊎_elim, arith}
+use Rattle.std.proofs.lemmas.Bool.{cases_eq, cases_Bool, eqb-true, or_cases}
+use Rattle.std.proofs.lemmas.Bool.Decides.{nat_tests}
 use Rattle.std.specs.Iterator.{Drains, Yields}
 use Rattle.certificates.specs.Loads.{occurs, different_loads, Descends, WalksDown}
 use Rattle.certificates.specs.declared.values.Values.{Values}
 
 -- ---- loads that occur
-pub occurs_at : (v : ℕ) (x : List ℕ) → occurs v x ≡ true → (i : ℕ) × (get_or x i 0 ≡ v)
-occurs_at v [] e = absurd (both_ways false refl e)
-occurs_at v (load ∷ rest) e = ⊎_elim (λ here. (0, eqb-true load v here)) (λ there. later (occurs_at v rest there)) (or_cases (eqb load v) (occurs v rest) e)
-  where
-    later : (i : ℕ) × (get_or rest i 0 ≡ v) → (i : ℕ) × (get_or (load ∷ rest) i 0 ≡ v)
-    later r = (suc r.0, r.1)
+occurs_at : (v : ℕ) (x : List ℕ) → occurs v x ≡ true → (i : ℕ) × (get_or x i 0 ≡ v)
+occurs_at v [] e = cc
+occurs_at v (load ∷ rest) e =
+    ⊎_elim (λ here. (0, eqb-true load v here)) (λ there. let r = occurs_at v rest there in (suc r.0, r.1)) (or_cases (eqb load v) (occurs v rest) e)
 
-pub occurs_never : (v : ℕ) (x : List ℕ) → 0 < v → occurs v x ≡ false → (i : ℕ) → get_or x i 0 ≡ v → ⊥
+occurs_never : (v : ℕ) (x : List ℕ) → 0 < v → occurs v x ≡ false → (i : ℕ) → get_or x i 0 ≡ v → ⊥
 occurs_never v [] pos e i h = omega arith
-occurs_never v (load ∷ rest) pos e zero h = both_ways (eqb load v || occurs v rest) e (or_left (eqb load v) (occurs v rest) (eq-eqb load v h))
-occurs_never v (load ∷ rest) pos e (suc i) h =
-    ⊎_elim (λ t. both_ways (eqb load v || occurs v rest) e (or_right (eqb load v) (occurs v rest) t)) (λ f. occurs_never v rest pos f i h) (cases_Bool (occurs v rest))
+occurs_never v (load ∷ rest) pos e zero h = grind (arith, nat_tests)
+occurs_never v (load ∷ rest) pos e (suc i) h = occurs_never v rest pos (grind (arith, nat_tests)) i h
 
 -- ---- the different positive loads below a bound
 abbrev pub one : ℕ → ℕ → Bool → ℕ
@@ -27,45 +25,22 @@ abbrev pub different_below : ℕ → List ℕ → ℕ
 different_below b [] = 0
 different_below b (load ∷ rest) = one b load (occurs load rest) + different_below b rest
 
-never : (t : Bool) → ◌≡◌ {A = ℕ} (cond (t && false) 1 0) 0
-never true = refl
-never false = refl
-
-never_two : (s t : Bool) → ◌≡◌ {A = ℕ} (cond (s && (t && false)) 1 0) 0
-never_two true t = never t
-never_two false t = refl
-
-at_most_one : (t : Bool) → cond t 1 0 ≤ 1
-at_most_one true = omega arith
-at_most_one false = omega arith
-
 -- a bound may fall as long as it passes no load
 same_test : (load a b : ℕ) → a ≤ b → (a ≤ load → load < b → ⊥) → ltb load b ≡ ltb load a
-same_test load a b le none =
-    ⊎_elim (λ (low : load < a). lt-ltb load b (omega arith) ∙ sym (lt-ltb load a low))
-    (λ (high : a ≤ load). ⊎_elim (λ lt. absurd (none high lt)) (λ past. le-ltb load b past ∙ sym (le-ltb load a high)) (cases_lt load b))
-    (cases_lt load a)
+same_test load a b le none = grind (arith, nat_tests)
 
-pub below_gap : (x : List ℕ) (a b : ℕ) → a ≤ b → ((i : ℕ) → a ≤ get_or x i 0 → get_or x i 0 < b → ⊥) → different_below b x ≡ different_below a x
+below_gap : (x : List ℕ) (a b : ℕ) → a ≤ b → ((i : ℕ) → a ≤ get_or x i 0 → get_or x i 0 < b → ⊥) → different_below b x ≡ different_below a x
 below_gap [] a b le none = refl
-below_gap (load ∷ rest) a b le none =
-    ap₂ (λ (t : Bool) (d : ℕ). cond (t && (ltb 0 load && not (occurs load rest))) 1 0 + d) (same_test load a b le (none 0)) (below_gap rest a b le (λ i. none (suc i)))
+below_gap (load ∷ rest) a b le none = let e = same_test load a b le (none 0) in let r = below_gap rest a b le (λ i. none (suc i)) in grind arith
 
 -- a load counts once
-pub below_load : (x : List ℕ) (v i : ℕ) → 0 < v → get_or x i 0 ≡ v → different_below (v + 1) x ≡ different_below v x + 1
+below_load : (x : List ℕ) (v i : ℕ) → 0 < v → get_or x i 0 ≡ v → different_below (v + 1) x ≡ different_below v x + 1
 below_load [] v i pos h = absurd (omega arith)
 below_load (load ∷ rest) v i pos h =
     ⊎_elim (λ t. let r = occurs_at v rest t in again t (below_load rest v r.0 pos r.1)) (λ f. last f i h) (cases_Bool (occurs v rest))
   where
     heads : occurs v rest ≡ true → one (v + 1) load (occurs load rest) ≡ one v load (occurs load rest)
-    heads t =
-        ⊎_elim
-        (λ (e : load ≡ v).
-        let o : occurs load rest ≡ true = ap (λ (k : ℕ). occurs k rest) e ∙ t in
-        ap (λ (later : Bool). one (v + 1) load later) o ∙ never_two (ltb load (v + 1)) (ltb 0 load)
-        ∙ sym (ap (λ (later : Bool). one v load later) o ∙ never_two (ltb load v) (ltb 0 load)))
-        (λ ne. ap (λ (s : Bool). cond (s && (ltb 0 load && not (occurs load rest))) 1 0) (same_test load v (v + 1) (omega arith) (λ low high. ne (omega arith))))
-        (cases_eq load v)
+    heads t = ⊎_elim (λ (e : load ≡ v). let o : occurs load rest ≡ true = ap (λ (k : ℕ). occurs k rest) e ∙ t in grind (arith, nat_tests)) (λ ne. grind (arith, nat_tests)) (cases_eq load v)
 
     again : occurs v rest ≡ true → different_below (v + 1) rest ≡ different_below v rest + 1 → different_below (v + 1) (load ∷ rest) ≡ different_below v (load ∷ rest) + 1
     again t b = let a = heads t in omega arith
@@ -73,37 +48,27 @@ below_load (load ∷ rest) v i pos h =
     counted : load ≡ v → occurs v rest ≡ false → different_below (v + 1) (load ∷ rest) ≡ different_below v (load ∷ rest) + 1
     counted e f =
         let o : occurs load rest ≡ false = ap (λ (k : ℕ). occurs k rest) e ∙ f in
-        let new : one (v + 1) load (occurs load rest) ≡ 1 =
-        ap (λ (later : Bool). one (v + 1) load later) o ∙ ap₂ (λ (s t : Bool). cond (s && (t && true)) 1 0) (lt-ltb load (v + 1) (omega arith)) (lt-ltb 0 load (omega arith)) in
-        let old : one v load (occurs load rest) ≡ 0 = ap (λ (s : Bool). cond (s && (ltb 0 load && not (occurs load rest))) 1 0) (le-ltb load v (omega arith)) in
         let g = below_gap rest v (v + 1) (omega arith) (λ k low high. occurs_never v rest pos f k (omega arith)) in
-        omega arith
+        grind (arith, nat_tests)
 
     last : occurs v rest ≡ false → (i : ℕ) → get_or (load ∷ rest) i 0 ≡ v → different_below (v + 1) (load ∷ rest) ≡ different_below v (load ∷ rest) + 1
     last f zero h = counted h f
     last f (suc i) h = absurd (occurs_never v rest pos f i h)
 
 -- no positive load is below 1
-pub below_one : (x : List ℕ) → different_below 1 x ≡ 0
+below_one : (x : List ℕ) → different_below 1 x ≡ 0
 below_one [] = refl
-below_one (load ∷ rest) = let a = head in let b = below_one rest in omega arith
-  where
-    head : one 1 load (occurs load rest) ≡ 0
-    head =
-        ⊎_elim (λ (pos : 0 < load). ap (λ (s : Bool). cond (s && (ltb 0 load && not (occurs load rest))) 1 0) (le-ltb load 1 (omega arith)))
-        (λ (none : load ≤ 0). ap (λ (s : Bool). cond (ltb load 1 && (s && not (occurs load rest))) 1 0) (le-ltb 0 load none) ∙ never (ltb load 1))
-        (cases_lt 0 load)
+below_one (load ∷ rest) = let b = below_one rest in grind (arith, nat_tests)
 
 -- where all loads are below the bound, all are counted
 pub below_all : (x : List ℕ) (b : ℕ) → ((i : ℕ) → get_or x i 0 < b) → different_below b x ≡ different_loads x
 below_all [] b low = refl
-below_all (load ∷ rest) b low =
-    ap₂ (λ (t : Bool) (d : ℕ). cond (t && (ltb 0 load && not (occurs load rest))) 1 0 + d) (lt-ltb load b (low 0)) (below_all rest b (λ i. low (suc i)))
+below_all (load ∷ rest) b low = let lt = low 0 in let r = below_all rest b (λ i. low (suc i)) in grind (arith, nat_tests)
 
 -- there are no more different loads than seats
 pub different_few : (x : List ℕ) → different_loads x ≤ length x
 different_few [] = omega arith
-different_few (load ∷ rest) = let a = at_most_one (ltb 0 load && not (occurs load rest)) in let b = different_few rest in omega arith
+different_few (load ∷ rest) = let b = different_few rest in grind (arith, nat_tests)
 
 -- ---- the walk down the loads
 -- each step passes one load, and where no load is left none is below

@@ -16,6 +16,7 @@ fn fill<S: BaseSystem>(s: &S, table: &mut [CertRow])
     requires { different_loads (S.BaseSystem.loads s.now) ≤ length table.old }
     ensures { Filled (S.BaseSystem.bases s.now) (S.BaseSystem.loads s.now) table.old table.new (different_loads (S.BaseSystem.loads s.now)) }
 {
+    // Each row by its place: of rows written through `iter_mut`, a proof knows the number alone.
     for (k, value) in values_of(s).enumerate() {
         table[k] = CertRow {
             value,
