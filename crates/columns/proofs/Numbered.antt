@@ -3,7 +3,9 @@ use Rattle.std.proofs.Common.{◌≡◌, ℕ, zero, suc, ◌+◌, ◌/◌, ◌%�
 use Rattle.std.proofs.lemmas.List.{replicate_more, length_push, length-replicate}
 use Rattle.std.proofs.lemmas.Bool.{lt-ltb, le-ltb, le-leb, leb-true, cases_lt, cond_both}
 use Rattle.std.proofs.lemmas.Bool.Decides.{nat_tests}
-use Rattle.columns.specs.Numbers.{and_then, grown, number_after, number_of, number_text, Fits, Holds, NumberSays}
+use Rattle.std.proofs.lemmas.Option.{option_and_then_some}
+use Rattle.std.specs.Option.{option_and_then}
+use Rattle.columns.specs.Numbers.{grown, number_after, number_of, number_text, Fits, Holds, NumberSays}
 
 -- a byte more is at most a digit more
 pub grown_bound : (before after : Option ℕ) (c k : ℕ) → Some after ≡ grown before c → unwrap_or before 0 < 10 ^ k → unwrap_or after 0 < 10 ^ (k + 1)
@@ -79,10 +81,9 @@ add_front xs ys zs c e = rw (← e, append_assoc)
 suc_over : (k n v : ℕ) → number_text (suc k + n) v ≡ number_text (k + suc n) v
 suc_over k n v = ap (λ w. number_text w v) (omega arith)
 
--- what and_then found, and what it went on with
-then_some : {A B : Type 0} (o : Option A) (f : A → Option B) (v : B) → and_then o f ≡ Some v → (x : A) × (o ≡ Some x) × (f x ≡ Some v)
-then_some None f v e = absurd cc
-then_some (Some x) f v e = (x, refl, e)
+-- what was found first, and what it went on with
+then_some : {A B : Type 0} (o : Option A) (f : A → Option B) (v : B) → option_and_then f o ≡ Some v → (x : A) × (o ≡ Some x) × (f x ≡ Some v)
+then_some o f v e = option_and_then_some f o v e (λ x p q. (x, p, q))
 
 -- bytes that read as v after the digits of m are, behind those, what is written for v
 digits_text : (cs : List ℕ) (k m v : ℕ) → number_after (Some m) cs ≡ Some v → number_text k m ++ cs ≡ number_text (k + length cs) v

@@ -1,6 +1,7 @@
 -- A number in a column. Assumes nothing.
 use Rattle.std.specs.Prelude.{◌≡◌, ℕ, zero, suc, ◌+◌, ◌-◌, ◌*◌, ◌/◌, ◌%◌, ◌^◌, ◌<◌, ◌≤◌, cond, List, [], ◌∷◌, ◌++◌, length, replicate, Some, None, Option, ◌==◌, nat_le, nat_lt}
 use Rattle.std.specs.Char.{is_ascii_digit}
+use Rattle.std.specs.Option.{option_and_then}
 
 -- the column of w bytes that holds the number v: its last digit stands last, and before that stand the digits of v / 10, or spaces where v has one digit
 abbrev pub number_text : ℕ → ℕ → List ℕ
@@ -26,15 +27,10 @@ abbrev pub grown : Option ℕ → ℕ → Option (Option ℕ)
 grown None c = cond (c == 32) (Some None) (cond (is_ascii_digit c) (Some (Some (c - 48))) None)
 grown (Some n) c = cond (n == 0) None (cond (is_ascii_digit c) (Some (Some (n * 10 + (c - 48)))) None)
 
--- goes on with what was found, if anything was
-abbrev pub and_then : {A B : Type 0} → Option A → (A → Option B) → Option B
-and_then None f = None
-and_then (Some x) f = f x
-
 -- the number that the bytes say after what stands before them
 abbrev pub number_after : Option ℕ → List ℕ → Option ℕ
 number_after before [] = before
-number_after before (c ∷ cs) = and_then (grown before c) (λ after. number_after after cs)
+number_after before (c ∷ cs) = option_and_then (λ after. number_after after cs) (grown before c)
 
 -- the number that a column of at most 18 bytes says, read from left to right
 abbrev pub number_of : List ℕ → Option ℕ

@@ -1,6 +1,6 @@
 -- The single steps of a page, each with the text that it reads. Assumes nothing.
 use Rattle.std.proofs.Common.{◌≡◌, ℕ, ◌^◌, ◌<◌, ◌≤◌, Bool, true, false, cond, ◌&&◌, eqb, ltb, leb, List, [], ◌∷◌, ◌++◌, length, get_or, take, drop, Some, None, Option, unwrap_or, sym, refl, ap, ◌∙◌, subst, inl, inr, arith}
-use Rattle.std.specs.Option.{option_map, ok_or}
+use Rattle.std.specs.Option.{option_map, option_and_then, ok_or}
 use Rattle.std.specs.Str.{bytes_eq}
 use Rattle.std.proofs.lemmas.Slice.Eq.{bytes_eq-Decides}
 use Rattle.std.proofs.lemmas.List.{take-append-drop, length-take-le, length-append, take_at, drop_at}
@@ -14,7 +14,7 @@ use Rattle.faults.specs.declared.Reason.TheVariants.{Layout, ListNotRising}
 use Rattle.faults.specs.Places.{fault_on_page}
 use Rattle.columns.specs.declared.words.Word.{Word}
 use Rattle.columns.specs.declared.words.Word.TheVariants.{Turns, Legs, Nests, Carry, Cap, Most, Least, Share, End}
-use Rattle.columns.specs.Numbers.{and_then, number_of, number_text}
+use Rattle.columns.specs.Numbers.{number_of, number_text}
 use Rattle.columns.specs.Rows.{number_column, word_column}
 use Rattle.columns.proofs.Numbered.{number_read, number_written, length_text}
 use Rattle.cursors.specs.Steps.{Spot, got, refused, go_on, block, past, below, here, tested, field, seat, at_word, word, line_end, closed}
@@ -66,7 +66,7 @@ module _ (good : ℕ → Bool) (otherwise : Reason) where
     | inr f ↦ absurd (never _ (rw f at e))
   ]
 
-  column_back : (p q : Spot) (v : ℕ) (o : Option (List ℕ)) → block column_bytes p ≡ o → tested good otherwise p (ok_or (and_then o number_of) (here Layout p)) ≡ got v q → (p.rest ≡ number_text 6 v ++ q.rest) × ((good v ≡ true) × (v < 10 ^ 6))
+  column_back : (p q : Spot) (v : ℕ) (o : Option (List ℕ)) → block column_bytes p ≡ o → tested good otherwise p (ok_or (option_and_then number_of o) (here Layout p)) ≡ got v q → (p.rest ≡ number_text 6 v ++ q.rest) × ((good v ≡ true) × (v < 10 ^ 6))
   column_back p q v None b e = absurd (never _ e)
   column_back p q v (Some bs) b e = value_back p q v bs b (number_of bs) refl e
 
@@ -78,7 +78,7 @@ module _ (good : ℕ → Bool) (otherwise : Reason) where
     forth = λ p v rest ok _ e.
         let b = block_text column_bytes p (number_text 6 v) rest (length_text 6 v) e in (
           past column_bytes p,
-          ap (λ o. tested good otherwise p (ok_or (and_then o number_of) (here Layout p))) b.0
+          ap (λ o. tested good otherwise p (ok_or (option_and_then number_of o) (here Layout p))) b.0
               ∙ ap (λ o. tested good otherwise p (ok_or o (here Layout p))) (number_written 6 v (omega arith, omega arith, ok.1))
               ∙ ap (λ t. cond t (got v (past column_bytes p)) (refused (here otherwise p))) ok.0,
           b.1,

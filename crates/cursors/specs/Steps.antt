@@ -1,6 +1,6 @@
 -- Reading from left to right: a step takes a spot in a page, and answers what it found and the next spot, or a fault. Assumes nothing.
 use Rattle.std.specs.Prelude.{ℕ, ◌+◌, Bool, false, cond, ◌&&◌, ltb, List, length, take, drop, Some, None, Ok, Err, Option, Result, ◌==◌, nat_le, nat_lt, slice_index}
-use Rattle.std.specs.Option.{option_map, unwrap_or, ok_or}
+use Rattle.std.specs.Option.{option_map, option_and_then, unwrap_or, ok_or}
 use Rattle.std.specs.Ordering.{nat_cmp, as_partial_cmp}
 use Rattle.std.specs.Range.Bound.{bounds_contain}
 use Rattle.std.specs.Str.{bytes_eq}
@@ -11,7 +11,7 @@ use Rattle.faults.specs.declared.Reason.{Reason}
 use Rattle.faults.specs.declared.Reason.TheVariants.{Layout, NumberBeyondLimits, ListNotRising}
 use Rattle.faults.specs.Places.{fault_on_page}
 use Rattle.columns.specs.declared.words.Word.{Word}
-use Rattle.columns.specs.Numbers.{and_then, number_of}
+use Rattle.columns.specs.Numbers.{number_of}
 use Rattle.columns.specs.Rows.{word_column}
 
 -- what is left of a page, and the line and the column that come next
@@ -64,7 +64,7 @@ here reason p = fault_on_page reason p.line p.column
 
 -- the number in the next column; no number, or no whole column, is a fault of layout
 abbrev pub shown : Spot → Result ℕ Fault
-shown p = ok_or (and_then (block column_bytes p) number_of) (here Layout p)
+shown p = ok_or (option_and_then number_of (block column_bytes p)) (here Layout p)
 
 -- a number that passes a test, or else this fault
 abbrev pub tested : (ℕ → Bool) → Reason → Spot → Result ℕ Fault → Outcome ℕ
