@@ -4,8 +4,9 @@ use Rattle.std.proofs.Common.{sym, ap, subst, ◌∙◌, ⊎_elim, arith}
 use Rattle.std.proofs.lemmas.List.{get_or_past}
 use Rattle.std.proofs.lemmas.Bool.{cases_lt}
 use Rattle.bases.specs.Exchange.{moved, Exchange, Same, Reaches}
+use Rattle.bases.specs.Says.{Stands}
 use Rattle.bases.proofs.Moves.{length_moved, moved_from, seat_of}
-use Rattle.carry.specs.Carried.{added, largest, Carried}
+use Rattle.carry.specs.Carried.{added, largest, Carried, StandsOver}
 use Rattle.carry.specs.Added.{largest_high, length_added, added_at, added_cancels, added_moved}
 
 module _ (B : List ℕ → Type 0) (c : List ℕ) where
@@ -16,6 +17,14 @@ module _ (B : List ℕ → Type 0) (c : List ℕ) where
   -- and then they are
   pub base_above : (x : List ℕ) → B x → Carried c B (added c x)
   base_above x h = (x, h, refl)
+
+  -- where the layer stands, the system below stands
+  pub stands_below : (x : List ℕ) (top : ℕ) → StandsOver c B x top → Stands B x top
+  stands_below x top h = (base_below x h.0, omega (arith, h.1))
+
+  -- and where that one does, and the ceiling with the largest number is still a load, the layer stands
+  pub stands_over : (x : List ℕ) (top : ℕ) → Stands B x top → top + largest c ≤ 999999 → StandsOver c B x top
+  stands_over x top h low = (base_above x h.0, low)
 
   -- every base has one load for each seat
   pub carried_width : (n : ℕ) → ((y : List ℕ) → B y → length y ≡ n) → (x : List ℕ) → Carried c B x → length x ≡ n

@@ -6,7 +6,7 @@ ghost use Rattle.std.proofs.Common.{ap₂, sym, ◌∙◌, ap, rules};
 ghost use Rattle.faults.specs.declared.Kind.TheVariants.{Carry as CarryKind};
 ghost use Rattle.faults.specs.Depth.{raised};
 ghost use Rattle.carry.specs.Carried.{added, largest as largest_of, Carried, carry_answer};
-ghost use Rattle.carry.specs.Layer.{base_above, carried_width, carried_high, carried_exchange, carried_same};
+ghost use Rattle.carry.specs.Layer.{stands_over, carried_width, carried_high, carried_exchange, carried_same};
 ghost use Rattle.carry.specs.Added.{added_moved};
 
 use bases::{BaseSystem, pair_given, seat_given};
@@ -43,7 +43,9 @@ impl<S: BaseSystem> BaseSystem for Carry<S> {
     // the unit comes from below, not from the number carried
     ghost shifted = { λ a i j count b. (a.table.carried ≡ b.table.carried) × S.BaseSystem.shifted a.below i j count b.below × (0 < slice_index (S.BaseSystem.loads a.below) i) };
 
-    ghost stands = { λ s. (base_above (S.BaseSystem.bases s.below) s.table.carried (S.BaseSystem.loads s.below) (S.BaseSystem.stands s.below).0, s.low) };
+    ghost stands = { λ s.
+        let b = S.BaseSystem in
+        stands_over (b.bases s.below) s.table.carried (b.loads s.below) (b.top s.below) (b.stands s.below) s.low };
 
     ghost few = { Prim.search rules };
 
