@@ -5,7 +5,8 @@ ghost use Rattle.bases.specs.Exchange.{Reaches};
 
 use crate::system::BaseSystem;
 
-// The standing load of seat i; 0 where i is no seat.
+// The standing load of seat i; 0 where i is no seat. (Two functions, this one and the next: one for both would take the call as a
+// closure, and say no more than its one line.)
 pub fn standing_load<S: BaseSystem>(s: &S, i: u8) -> u32
     ensures { result ≡ slice_index (S.BaseSystem.loads s.now) i }
 {

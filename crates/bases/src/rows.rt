@@ -15,7 +15,7 @@ pub trait Rows: BaseSystem {
     // what a row gives to a seat
     ghost share: { Self.Row → ℕ → ℕ };
 
-    // Writes all rows to the front of a table, and answers how many.
+    // Writes all rows to the front of the caller's table, since no call allocates, and answers how many.
     fn write_rows(&self, out: &mut [Self::Row]) -> Result<usize, Fault>
         ensures writes { WriteSays (rows self.now) (Self.BaseSystem.layer self.now) out.old out.new result }
         ensures adds { RowsAdd share (rows self.now) (Self.BaseSystem.loads self.now) };

@@ -18,7 +18,7 @@ pub trait BaseSystem {
     // the load lists that are bases
     ghost bases: { Self → List ℕ → Type 0 };
 
-    // the standing loads
+    // the standing loads (apart from the bases: promises speak of other loads of the same bases)
     ghost loads: { Self → List ℕ };
 
     // a number that no load of any base exceeds

@@ -25,8 +25,9 @@ fn fill<S: BaseSystem>(s: &S, table: &mut [CertRow])
     }
 }
 
-// Writes the rows which show that the standing base is level by whole loads, and answers how many. It is refused where the base is
-// not level, and then where the table has too few rows for the different positive loads; a refusal writes nothing.
+// Writes the rows which show that the standing base is level by whole loads to the front of the caller's table, since no call
+// allocates, and answers how many. It is refused where the base is not level, and then where the table has too few rows for the
+// different positive loads; a refusal writes nothing.
 pub fn certify<S: BaseSystem>(s: &S, table: &mut [CertRow]) -> Result<usize, Fault>
     ensures { CertifySays (S.BaseSystem.bases s.now) (S.BaseSystem.loads s.now) (S.BaseSystem.layer s.now) table.old table.new result }
 {

@@ -61,6 +61,7 @@ fn digits(column: &[u8]) -> Option<u64>
 fn fits(width: usize, value: u64) -> bool
     ensures { MatchBool result (Fits width value) (Fits width value → ⊥) }
 {
+    // a width of at most 18 fits, so the cast cuts nothing off
     (1..=WIDEST).contains(&width) && value < 10u64.pow(width as u32)
 }
 
@@ -72,6 +73,7 @@ fn put_digits(column: &mut [u8], value: u64)
     let Some((last, front)) = column.split_last_mut() else {
         return;
     };
+    // a digit fits, so the cast cuts nothing off
     *last = b'0' + (value % 10) as u8;
     if value < 10 {
         front.fill(b' ');

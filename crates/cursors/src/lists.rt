@@ -15,6 +15,7 @@ impl<'a> Cursor<'a> {
         let count = n.min(MOST_SEATS);
         let mut set = 0;
         let mut low = 0;
+        // each seat is read behind the last one and must lie above it, and any may be refused, so a fold is no plainer
         for _ in 0..size {
             let seat = self.seat(low, count)?;
             set = seats::with(set, seat);

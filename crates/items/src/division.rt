@@ -11,7 +11,7 @@ pub trait Division {
     // the seats and items, the rooms and what is due; nothing changes it
     ghost shape: { Self → Shape };
 
-    // what each seat has of each item
+    // what each seat has of each item (apart from the shape: one shape goes with the amounts before and after, or with none)
     ghost amount: { Self → ℕ → ℕ → ℕ };
 
     // a number that no load of any filling exceeds
@@ -38,6 +38,7 @@ pub trait Division {
         ensures { (v : ℕ) → Exactly (In v result) (Link (shape self.now) (amount self.now) u v) };
 
     // moves one unit of one item from u to v; false, and nothing is moved, where u does not link to v
+    // (a `bool`, as a set's `insert` answers: a refusal would say nothing more, and relays go along links that stand)
     fn relay(&mut self, u: u8, v: u8) -> bool
         ensures moves { MatchBool result (Relayed (shape self.old) (amount self.old) (amount self.new) u v) ((Link (shape self.old) (amount self.old) u v → ⊥) × (self.new ≡ self.old)) }
         ensures keeps { Kept shape most sort self.old self.new };

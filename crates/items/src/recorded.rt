@@ -16,7 +16,7 @@ pub trait Recorded: Division {
     // what a row gives to a seat
     ghost share: { Self.Row → ℕ → ℕ };
 
-    // writes all rows to the front of a table, and answers how many
+    // writes all rows to the front of the caller's table, since no call allocates, and answers how many
     fn write_rows(&self, out: &mut [Self::Row]) -> Result<usize, Fault>
         ensures { WriteSays (rows self.now) (Self.Division.sort self.now) out.old out.new result };
 

@@ -7,6 +7,7 @@ use std::io;
 
 // The load of each seat.
 pub fn show_loads<S: BaseSystem>(rt: &HostRuntime, s: &S) -> io::Result<()> {
+    // seats are asked for by number, and each line may fail to be written, so a chain is no plainer
     for i in 0..s.count() {
         println!(rt; "station {i}: {}", standing_load(s, i))?;
     }

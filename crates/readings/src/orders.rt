@@ -8,7 +8,7 @@ pub struct CarryOrder {
     pub carried: u32,
 }
 
-// Caps the load of a seat.
+// Caps the load of a seat. (Not the grading around a range, which has the same fields: an order is what a page says, lawful or not.)
 #[derive(Clone, Copy, PartialEq, Eq, Debug)]
 pub struct CapOrder {
     pub seat: u8,
@@ -16,7 +16,7 @@ pub struct CapOrder {
     pub hi: u32,
 }
 
-// Favours a set of seats.
+// Favours a set of seats. (Not the grading for a set, for the same reason.)
 #[derive(Clone, Copy, PartialEq, Eq, Debug)]
 pub struct FavourOrder {
     pub aim: Aim,

@@ -22,6 +22,7 @@ impl PageLimits {
         ensures turns { result.turns ≡ most_turns }
         ensures legs { result.legs ≡ most_legs }
     {
+        // 512 and 256 fit, so nothing is cut off, and a `try_from` would have a case that never comes
         PageLimits {
             seats: MOST_SEATS,
             turns: MOST_TURNS as u32,

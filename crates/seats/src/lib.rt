@@ -81,6 +81,7 @@ pub fn lowest(set: u64) -> Option<u8>
     if set == 0 {
         return None;
     }
+    // at most 63, so nothing is cut off, and a `try_from` would have a case that never comes
     Some(set.trailing_zeros() as u8)
 }
 
