@@ -43,8 +43,7 @@ fn pace(rt: &HostRuntime, name: &str, legs: Vec<Leg>) -> anyhow::Result<()> {
 fn report(rt: &HostRuntime, name: &str, table: LegTable, start: Instant) -> io::Result<()> {
     let mut legs = Divided::over(table);
     // the whole budget where it is spent, and none where the levelling is refused
-    let steps = level(&mut legs, &Whole, MOST_STEPS)
-        .map_or(0, |steps| steps.unwrap_or(MOST_STEPS));
+    let steps = level(&mut legs, &Whole, MOST_STEPS).map_or(0, |steps| steps.unwrap_or(MOST_STEPS));
     let elapsed = start.elapsed(rt)?;
     println!(rt; "{name}: {steps} steps")?;
     if steps > 0 {

@@ -2,12 +2,12 @@
 #![tactic(auto)]
 
 #[cfg(test)]
+mod bounds;
+#[cfg(test)]
 mod carries;
 #[cfg(test)]
 mod chained;
 #[cfg(test)]
 mod depths;
-#[cfg(test)]
-mod limits;
 #[cfg(test)]
 mod sets;
