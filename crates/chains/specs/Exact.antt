@@ -10,6 +10,7 @@ use Rattle.seats.proofs.Digits.{digit}
 use Rattle.seats.proofs.Members.{in_or_not, in_or_nought, out_nought}
 use Rattle.bases.specs.Sums.{unit}
 use Rattle.bases.specs.Exchange.{Reaches}
+use Rattle.bases.specs.Says.{Stands}
 use Rattle.bases.proofs.Moves.{moved_at}
 use Rattle.bases.proofs.Toward.{reach_joins}
 use Rattle.items.specs.Fillings.{Shape, Fills, Link, Divisions, load_of, loads_of, changed}
@@ -22,6 +23,10 @@ use Rattle.chains.specs.Chains.{Distances, from_of, far_of}
 -- each base has a load for each seat
 pub divisions_width : (shape : Shape) (x : List ℕ) → Divisions shape x → length x ≡ shape.seats
 divisions_width shape x (f, fills, e) = ap length e ∙ length_loads shape f
+
+-- a division always stands on the base of its loads
+pub always_stands : (shape : Shape) (f : ℕ → ℕ → ℕ) (most : ℕ) → Fills shape f → most ≤ 999999 → Stands (Divisions shape) (loads_of shape f) most
+always_stands shape f most fills small = ((f, fills, refl), small)
 
 module _ (shape : Shape) (f : ℕ → ℕ → ℕ) (fills : Fills shape f) (i : ℕ) where
   -- a base that is one move away is the loads of a filling that differ by one unit at each of two seats

@@ -1,11 +1,11 @@
 // Divided items as a base system: its bases are the loads of all fillings.
-ghost use Rattle.std.specs.Prelude.{◌≡◌, ℕ, List, slice_index, refl};
+ghost use Rattle.std.specs.Prelude.{◌≡◌, ℕ, List, slice_index};
 ghost use Rattle.std.proofs.Common.{ap, ◌∙◌, sym, subst, ⊎_elim, arith, rules};
 ghost use Rattle.faults.specs.declared.Reason.TheVariants.{NoSuchBase};
 ghost use Rattle.faults.specs.Places.{fault_at};
 ghost use Rattle.items.specs.Fillings.{Divisions, Kept, loads_of, Shape};
 ghost use Rattle.chains.specs.Chains.{Shifted};
-ghost use Rattle.chains.specs.Exact.{divisions_width};
+ghost use Rattle.chains.specs.Exact.{always_stands, divisions_width};
 ghost use Rattle.std.proofs.lemmas.Bool.{cases_lt};
 ghost use Rattle.std.proofs.lemmas.List.{get_or_past};
 ghost use Rattle.items.proofs.Units.{length_loads, loads_at};
@@ -57,7 +57,7 @@ impl<D: Division> BaseSystem for Divided<D> {
 
     ghost stands = { λ s.
         let d = D.Division in
-        ((d.amount s.division, d.fills s.division, refl), d.small s.division) };
+        always_stands (d.shape s.division) (d.amount s.division) (d.most s.division) (d.fills s.division) (d.small s.division) };
 
     ghost few = { Prim.search rules };
 

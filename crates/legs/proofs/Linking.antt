@@ -2,6 +2,8 @@
 use Rattle.std.proofs.Common.{◌≡◌, ℕ, ◌+◌, ◌-◌, ◌*◌, ◌<◌, ◌≤◌, List, length, get_or, set, sym, refl, ap, ◌∙◌, subst, inl, inr, ⊎_elim, one-mul, arith}
 use Rattle.std.proofs.lemmas.List.{get_or-set_same, get_or-set_other}
 use Rattle.std.proofs.lemmas.Bool.{cases_eq}
+use Rattle.seats.specs.Sets.{In, Exactly, Joined}
+use Rattle.seats.proofs.Members.{in_none}
 use Rattle.bases.specs.Sums.{unit}
 use Rattle.bases.proofs.Sums.{unit_here}
 use Rattle.items.specs.Fillings.{Link, Relayed, unit_at}
@@ -146,3 +148,33 @@ module _ (seats : ℕ) (legs : List Leg) (first : List ℕ) (lawful : LawfulLegs
   relays_back t inside among links ne =
       relayed_share t (get_or first t 0 + 1) inside among
       (λ s. share_back (leg_at legs t) (get_or first t 0) (lawful t among).2 (within t among) u v s links ne)
+
+-- the seats that one leg more links u to
+pub links_more : (legs : List Leg) (first : List ℕ) (n u set one all : ℕ) → Joined set one all
+    → ((v : ℕ) → Exactly (In v set) (SomeLinks legs first n u v)) → ((v : ℕ) → Exactly (In v one) (LegLinks (leg_at legs n) (get_or first n 0) u v))
+    → (v : ℕ) → Exactly (In v all) (SomeLinks legs first (n + 1) u v)
+links_more legs first n u set one all joined before here v = (into, back)
+  where
+    into : In v all → SomeLinks legs first (n + 1) u v
+    into m =
+        ⊎_elim
+        (λ old. let r = (before v).0 old in (r.0, (let l = r.1 in omega arith), r.2))
+        (λ new. (n, omega arith, (here v).0 new)) ((joined v).0 m)
+
+    back : SomeLinks legs first (n + 1) u v → In v all
+    back (t, h, links) =
+        (joined v).1 (⊎_elim
+        (λ (e : t ≡ n). inr ((here v).1 (subst (λ (k : ℕ). LegLinks (leg_at legs k) (get_or first k 0) u v) e links)))
+        (λ ne. inl ((before v).1 (t, omega arith, links))) (cases_eq t n))
+
+-- no leg at all links any
+pub links_none : (legs : List Leg) (first : List ℕ) (u v : ℕ) → Exactly (In v 0) (SomeLinks legs first 0 u v)
+links_none legs first u v = (λ m. absurd (in_none v m), λ r. absurd (let l = r.1 in omega arith))
+
+-- one leg more that does not link u to v
+pub unlinked_more : (legs : List Leg) (first : List ℕ) (n u v : ℕ) → (SomeLinks legs first n u v → ⊥) → (LegLinks (leg_at legs n) (get_or first n 0) u v → ⊥)
+    → SomeLinks legs first (n + 1) u v → ⊥
+unlinked_more legs first n u v before here (t, h, links) =
+    ⊎_elim
+    (λ (e : t ≡ n). here (subst (λ (k : ℕ). LegLinks (leg_at legs k) (get_or first k 0) u v) e links))
+    (λ ne. before (t, omega arith, links)) (cases_eq t n)

@@ -5,7 +5,7 @@ use borrow.Author.Tests.{eqb-false}
 use Rattle.std.proofs.lemmas.Bool.{cases_eq, cases_lt}
 use Rattle.std.proofs.lemmas.Nat.Bits.{bit_at-lt, bit_at-zero, bit_at_and, bit_at_or, bit_at_not, bit_at_above, bit_at_ones, bit_at-pow_same, bit_at-pow_other, same_from_bits}
 use Rattle.seats.specs.Sets.{In, Within, Exactly, Joined, Shared, Removed}
-use Rattle.seats.proofs.Digits.{digit}
+use Rattle.seats.proofs.Digits.{digit, digit_not}
 
 -- a seat belongs, or its digit is nought
 pub in_or_nought : (i s : ℕ) → In i s ⊎ (digit i s ≡ 0)
@@ -109,3 +109,9 @@ inserted s i j = (
 -- the members of a power of two less one: the seats below its exponent
 pub below_power : (n j : ℕ) → Exactly (In j (2 ^ n - 1)) (j < n)
 below_power n j = (in_small n j (2 ^ n - 1) (omega (arith, pow_pos n)), bit_at_ones n j)
+
+-- the members of a complement: the seats that do not belong
+pub complement : (k b j : ℕ) → b < 2 ^ k → j < k → Exactly (In j (2 ^ k - 1 - b)) (In j b → ⊥)
+complement k b j hb hj =
+    let e = digit_not k j b hb hj in
+    (λ m n. omega arith, λ out. let z = out_nought j b out in omega arith)

@@ -1,11 +1,11 @@
 -- The lowest member of a set, and the set without it. Assumes nothing.
 use Rattle.std.proofs.Common.{w64, ◌≡◌, ℕ, zero, suc, ◌-◌, ◌/◌, ◌%◌, ◌^◌, ◌<◌, ◌≤◌, ◌⊎◌, sym, refl, ap, ◌∙◌, subst, inl, inr, ⊎_elim, arith}
 use lib.Bits.{bit_and, and_le_r}
-use lib.Count.{count_trailing_zeros}
+use lib.Count.{count_trailing_zeros, under}
 use Rattle.std.proofs.lemmas.Bool.{cases_eq, cases_lt}
 use Rattle.seats.specs.Sets.{In, Exactly, Lowest, Taken}
 use Rattle.std.proofs.lemmas.Nat.Bits.{bit_at_lowest, bit_at-suc, bit_at-trailing_zeros}
-use Rattle.seats.proofs.Digits.{digit}
+use Rattle.seats.proofs.Digits.{digit, half_lt, even_or_odd}
 use Rattle.seats.proofs.Members.{in_positive, out_nought, shared}
 use Rattle.seats.proofs.Counts.{ones_one_more}
 
@@ -86,3 +86,38 @@ taken s t h l = record {
     join : (j : ℕ) → In j (bit_and s (s - 1)) ⊎ (j ≡ t) → In j s
     join j (inl m) = ((others j).0 m).0
     join j (inr p) = subst (λ (x : ℕ). In x s) (sym p) l.member
+
+-- t is below k, and the lowest member of the set
+abbrev pub Found : ℕ → ℕ → ℕ → Type 0
+Found k s t = (t < k) × In t s × NoneBelow s t
+
+-- an even number has one trailing nought more than its half
+trailing_even : (k s : ℕ) → s % 2 ≡ 0 → count_trailing_zeros (suc k) s ≡ suc (count_trailing_zeros k (s / 2))
+unfolding count_trailing_zeros
+trailing_even k s e = ap (λ (d : ℕ). under d (count_trailing_zeros k (s / 2))) e
+
+-- an odd number has no trailing nought
+trailing_odd : (k s : ℕ) → s % 2 ≡ 1 → count_trailing_zeros (suc k) s ≡ 0
+unfolding count_trailing_zeros
+trailing_odd k s e = ap (λ (d : ℕ). under d (count_trailing_zeros k (s / 2))) e
+
+-- the lowest member of an even number is one above that of its half
+none_below_suc : (s t : ℕ) → s % 2 ≡ 0 → NoneBelow (s / 2) t → NoneBelow s (suc t)
+none_below_suc s t e none zero h m = omega (arith, bit_at_lowest s)
+none_below_suc s t e none (suc j) h m = none j (omega arith) (sym (bit_at-suc s j) ∙ m)
+
+-- the seat at the count of trailing noughts is the lowest member
+pub trailing_lowest : (k s : ℕ) → 0 < s → s < 2 ^ k → Found k s (count_trailing_zeros k s)
+trailing_lowest zero s p h = absurd (omega arith)
+trailing_lowest (suc k) s p h = ⊎_elim (even (λ pos. trailing_lowest k (s / 2) pos (half_lt k s h))) odd (even_or_odd s)
+  where
+    even : (0 < s / 2 → Found k (s / 2) (count_trailing_zeros k (s / 2))) → s % 2 ≡ 0 → Found (suc k) s (count_trailing_zeros (suc k) s)
+    even again e =
+        let t = count_trailing_zeros k (s / 2) in
+        let found = again (omega arith) in
+        subst (λ (x : ℕ). Found (suc k) s x) (sym (trailing_even k s e))
+        (omega (arith, found.0), bit_at-suc s t ∙ found.1, none_below_suc s t e found.2)
+
+    odd : s % 2 ≡ 1 → Found (suc k) s (count_trailing_zeros (suc k) s)
+    odd e =
+        subst (λ (x : ℕ). Found (suc k) s x) (sym (trailing_odd k s e)) (omega arith, bit_at_lowest s ∙ e, λ j h m. omega arith)
