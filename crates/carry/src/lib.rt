@@ -142,7 +142,7 @@ impl<S: BaseSystem> Carry<S> {
     }
 }
 
-// The largest of the numbers.
+// The largest of the numbers. (A fold from 0: the library's `max` answers an option, for a list that may be empty, and this is none.)
 fn largest(numbers: &[u32; 64]) -> u32
     ensures { result ≡ largest_of numbers.now }
 {

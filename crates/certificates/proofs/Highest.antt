@@ -52,7 +52,7 @@ module _ (bound : ℕ) where
       (λ e. taken a load x _ (largest (max a load) x (let p = is_low load e in let q = p.1 in omega arith)))
       (λ e. passed a load x _ e (largest a x h))
 
-  -- what the search for the next load answers
+  -- what the choice of the next load answers
   abbrev pub Answers : List ℕ → Option ℕ → Type 0
   Answers x r = MatchOption r (NextLoad x bound 0) (λ load. (0 < load) × NextLoad x bound load)
 
@@ -72,7 +72,7 @@ module _ (bound : ℕ) where
       cond_both (low load) (load ∷ filter low x) (filter low x) (λ ys. Answers (load ∷ x) (reduce max ys))
       (λ e. let p = is_low load e in found load x _ p.0 (largest load x p.1)) (λ e. later load x _ e (next_load x))
 
-  -- the largest of the low loads of the n seats is what the search for the next load answers
+  -- the largest of the low loads of the n seats is what the choice of the next load answers
   pub next_of_seats : (x : List ℕ) (n : ℕ) (r : Option ℕ) → length x ≡ n
       → option_map (λ l. l) r ≡ reduce max (filter low (map (λ i. get_or x i 0) (range_with_len 0 n))) → Answers x r
   next_of_seats x n r wide e =

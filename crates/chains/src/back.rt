@@ -15,7 +15,7 @@ pub fn relay_back<D: Division>(division: &mut D, spread: &Spread, i: u8, j: u8) 
     ensures passes { Passed (D.Division.shape division.old) (D.Division.amount division.old) (D.Division.amount division.new) i j result }
     ensures keeps { Kept D.Division.shape D.Division.most D.Division.sort division.old division.new }
 {
-    // no iterator gives these seats: each is read off the mark of the last, and each relay needs what the last one left
+    // an iterator of the seats on the way, for this one use, would be a type more and no plainer
     let mut v = j;
     let mut count = 0;
     while v != i {

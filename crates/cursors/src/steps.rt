@@ -92,7 +92,7 @@ impl<'a> Cursor<'a> {
         self.within(low.wide()..=high.wide(), Reason::NumberBeyondLimits)
     }
 
-    // A small number below `end`.
+    // A number below `end`.
     pub fn below(&mut self, end: u8) -> Result<u8, Fault>
         ensures { outcome result self.new ≡ number_below end self.old }
     {

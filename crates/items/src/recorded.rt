@@ -6,7 +6,8 @@ ghost use Rattle.items.specs.Fillings.{loads_of};
 use crate::division::Division;
 use faults::Fault;
 
-// A store of items that writes one row for each item.
+// A store of items that writes one row for each item. (It has the members of `bases::Rows` again: a crate may not implement a trait of
+// another for a generic type of a third, so a store has a trait of its own.)
 pub trait Recorded: Division {
     type Row;
 

@@ -1,6 +1,8 @@
 -- A table for which no fault is due is lawful.
-use Rattle.std.proofs.Common.{◌≡◌, ℕ, zero, suc, Bool, true, false, eqb, ltb, leb, List, [], ◌∷◌, length, Some, None, Option, refl, arith}
-use Rattle.std.proofs.lemmas.Bool.{leb-false, eqb-false, ltb-false}
+use Rattle.std.proofs.Common.{◌≡◌, ℕ, zero, suc, Bool, true, false, eqb, ltb, leb, List, [], ◌∷◌, length, Some, None, Option, refl, sym, ap, ◌∙◌, ◌<◌, ◌≤◌, ⊎_elim, arith}
+use Rattle.std.proofs.lemmas.Bool.{leb-false, eqb-false, ltb-false, lt-leb, le-leb, eq-eqb, cases_eq, cases_lt}
+use Rattle.bases.specs.Says.{Two, refusal}
+use Rattle.bases.proofs.Refusals.{refusal_first, refusal_second, refusal_equal}
 use Rattle.faults.specs.declared.Fault.{Fault}
 use Rattle.faults.specs.declared.Kind.TheVariants.{Legs}
 use Rattle.faults.specs.declared.Reason.TheVariants.{NoSuchSeat, SeatsEqual}
@@ -47,3 +49,15 @@ no_fault seats legs e =
       (omega arith, ltb-false 64 seats q.0, ltb-false 256 (length legs) r.0),
       legs_passed seats legs r.1,
     )
+
+-- what is due where the ends are not two different seats is the fault of the leg
+pub seats_fault : (seats : ℕ) (leg : Leg) (fault : Fault) → (Two seats leg.a leg.b → ⊥) → ((why : ℕ → ℕ → Fault) → fault ≡ refusal seats Legs why leg.a leg.b) → leg_fault seats leg ≡ Some fault
+seats_fault seats leg fault not_two due =
+    let why = λ (i j : ℕ). fault in
+    ⊎_elim
+    (λ (ha : leg.a < seats). ⊎_elim
+    (λ (hb : leg.b < seats). ⊎_elim
+    (λ (e : leg.a ≡ leg.b). rw (lt-leb seats leg.a ha, lt-leb seats leg.b hb, eq-eqb leg.a leg.b e) (ap (λ f. Some f) (sym (due why ∙ refusal_equal seats Legs why leg.a leg.b ha hb e))))
+    (λ ne. absurd (not_two (ha, hb, ne))) (cases_eq leg.a leg.b))
+    (λ (past : seats ≤ leg.b). rw (lt-leb seats leg.a ha, le-leb seats leg.b past) (ap (λ f. Some f) (sym (due why ∙ refusal_second seats Legs why leg.a leg.b ha past)))) (cases_lt leg.b seats))
+    (λ (past : seats ≤ leg.a). rw (le-leb seats leg.a past) (ap (λ f. Some f) (sym (due why ∙ refusal_first seats Legs why leg.a leg.b past)))) (cases_lt leg.a seats)

@@ -5,6 +5,7 @@ ghost use Rattle.legs.specs.Refusals.{leg_fault, legs_fault, NewSays};
 
 use crate::leg::Leg;
 use crate::table::LegTable;
+use bases::pair_given;
 use faults::{Fault, Kind, Reason};
 use limits::{MOST_LEGS, MOST_PASSAGES, MOST_SEATS};
 use std::array;
@@ -37,15 +38,7 @@ fn lawful_legs(seats: u8, legs: &[Leg]) -> Result<(), Fault>
 fn lawful_leg(seats: u8, leg: Leg) -> Result<(), Fault>
     ensures { MatchResult result (λ _. leg_fault seats leg ≡ None) (λ fault. leg_fault seats leg ≡ Some fault) }
 {
-    if leg.a >= seats {
-        return Err(Fault::at_seat(Reason::NoSuchSeat, leg.a, Kind::Legs));
-    }
-    if leg.b >= seats {
-        return Err(Fault::at_seat(Reason::NoSuchSeat, leg.b, Kind::Legs));
-    }
-    if leg.a == leg.b {
-        return Err(Fault::at_seat(Reason::SeatsEqual, leg.a, Kind::Legs));
-    }
+    pair_given(leg.a, leg.b, seats, Kind::Legs)?;
     if leg.passages == 0 || leg.passages > MOST_PASSAGES {
         return Err(Fault::nowhere(Reason::BeyondLimits, Kind::Legs));
     }

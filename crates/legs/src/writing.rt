@@ -37,6 +37,7 @@ impl Recorded for LegTable {
         if out.len() < rows {
             return Err(Fault::nowhere(Reason::TooFewRows, Kind::Legs));
         }
+        // each row by its place: of rows written through `iter_mut`, a proof knows the number alone
         for (t, leg) in self.shared().enumerate() {
             out[t] = LegRow::from(leg);
         }

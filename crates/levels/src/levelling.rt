@@ -21,7 +21,7 @@ pub fn level<S: BaseSystem, G: Grading>(
     if budget > MOST_STEPS {
         return Err(Fault::nowhere(Reason::BeyondLimits, s.kind()));
     }
-    // each step is found on the system that the last one left, so no iterator gives the steps beforehand
+    // the count is the answer; a `for` up to the budget would ask for a step once more behind it, and is no plainer
     let mut made = 0;
     while let Some((i, j)) = find_step(s, grading) {
         if made == budget {

@@ -1,14 +1,11 @@
 // How long levelling takes: the largest systems of legs, with the time of each on the error output.
 #![tactic(auto)]
 
-use bases::BaseSystem;
 use chains::Divided;
-use faults::Fault;
 use grades::Whole;
 use legs::{Leg, LegTable};
 use levels::level;
 use limits::MOST_STEPS;
-use std::io;
 use std::time::Instant;
 
 fn main(rt: HostRuntime) -> anyhow::Result<()> {
@@ -40,10 +37,10 @@ fn pace(rt: &HostRuntime, name: &str, legs: Vec<Leg>) -> anyhow::Result<()> {
     Ok(())
 }
 
-fn report(rt: &HostRuntime, name: &str, table: LegTable, start: Instant) -> io::Result<()> {
+fn report(rt: &HostRuntime, name: &str, table: LegTable, start: Instant) -> anyhow::Result<()> {
     let mut legs = Divided::over(table);
-    // the whole budget where it is spent, and none where the levelling is refused
-    let steps = level(&mut legs, &Whole, MOST_STEPS).map_or(0, |steps| steps.unwrap_or(MOST_STEPS));
+    // the whole budget where it is spent
+    let steps = level(&mut legs, &Whole, MOST_STEPS)?.unwrap_or(MOST_STEPS);
     let elapsed = start.elapsed(rt)?;
     println!(rt; "{name}: {steps} steps")?;
     if steps > 0 {

@@ -8,7 +8,7 @@ pub struct CarryOrder {
     pub carried: u32,
 }
 
-// Caps the load of a seat. (Not the grading around a range, which has the same fields: an order is what a page says, lawful or not.)
+// Caps the load of a seat. (Not the grading around a range, which has the same fields: an order is what a page says, and no grading yet.)
 #[derive(Clone, Copy, PartialEq, Eq, Debug)]
 pub struct CapOrder {
     pub seat: u8,

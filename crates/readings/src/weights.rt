@@ -9,6 +9,7 @@ impl Reading {
     pub fn weight(&self, seat: u8) -> u32
         ensures { LastCounts self.now.orders.shares.items (length self.now.orders.shares.items) seat result }
     {
+        // by the place of the last line, which the check follows alone; `rev` and `find` take thirty lines of proof
         let shares = self.orders.shares.as_slice();
         let last = shares.iter().rposition(|share| share.seat == seat);
         last.map_or(1, |line| shares[line].weight)

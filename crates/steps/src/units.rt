@@ -14,7 +14,7 @@ pub fn last_unit<S: BaseSystem>(s: &S, i: u8) -> WorkUnit
     }
 }
 
-// The unit that seat j would get next.
+// The unit that seat j would get next. (Two functions, this one and the last: a parameter for the one unit more would say less.)
 pub fn next_unit<S: BaseSystem>(s: &S, j: u8) -> WorkUnit
     ensures { result ≡ record { seat = j; number = slice_index (S.BaseSystem.loads s.now) j + 1 } }
 {
