@@ -1,4 +1,5 @@
--- The levelling is under way from turn to turn.
+-- The levelling is under way from turn to turn. (The lemmas take the parts of a family and not one of them, since they speak of
+-- every state, and of a state that does not stand the ceiling may be no load.)
 use Rattle.std.proofs.Common.{arith}
 use Rattle.levels.proofs.Under.{not_begun, one_more, promised_level}
 use Rattle.levels.proofs.levelling.level.Goals as goal
