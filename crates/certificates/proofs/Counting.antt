@@ -7,12 +7,12 @@ use Rattle.certificates.specs.Loads.{occurs, different_loads, Descends, WalksDow
 use Rattle.certificates.specs.declared.values.Values.{Values}
 
 -- ---- loads that occur
-occurs_at : (v : ℕ) (x : List ℕ) → occurs v x ≡ true → (i : ℕ) × (get_or x i 0 ≡ v)
+pub occurs_at : (v : ℕ) (x : List ℕ) → occurs v x ≡ true → (i : ℕ) × (get_or x i 0 ≡ v)
 occurs_at v [] e = cc
 occurs_at v (load ∷ rest) e =
     ⊎_elim (λ here. (0, eqb-true load v here)) (λ there. let r = occurs_at v rest there in (suc r.0, r.1)) (or_cases (eqb load v) (occurs v rest) e)
 
-occurs_never : (v : ℕ) (x : List ℕ) → 0 < v → occurs v x ≡ false → (i : ℕ) → get_or x i 0 ≡ v → ⊥
+pub occurs_never : (v : ℕ) (x : List ℕ) → 0 < v → occurs v x ≡ false → (i : ℕ) → get_or x i 0 ≡ v → ⊥
 occurs_never v [] pos e i h = omega arith
 occurs_never v (load ∷ rest) pos e zero h = grind (arith, nat_tests)
 occurs_never v (load ∷ rest) pos e (suc i) h = occurs_never v rest pos (grind (arith, nat_tests)) i h
@@ -29,12 +29,12 @@ different_below b (load ∷ rest) = one b load (occurs load rest) + different_be
 same_test : (load a b : ℕ) → a ≤ b → (a ≤ load → load < b → ⊥) → ltb load b ≡ ltb load a
 same_test load a b le none = grind (arith, nat_tests)
 
-below_gap : (x : List ℕ) (a b : ℕ) → a ≤ b → ((i : ℕ) → a ≤ get_or x i 0 → get_or x i 0 < b → ⊥) → different_below b x ≡ different_below a x
+pub below_gap : (x : List ℕ) (a b : ℕ) → a ≤ b → ((i : ℕ) → a ≤ get_or x i 0 → get_or x i 0 < b → ⊥) → different_below b x ≡ different_below a x
 below_gap [] a b le none = refl
 below_gap (load ∷ rest) a b le none = let e = same_test load a b le (none 0) in let r = below_gap rest a b le (λ i. none (suc i)) in grind arith
 
 -- a load counts once
-below_load : (x : List ℕ) (v i : ℕ) → 0 < v → get_or x i 0 ≡ v → different_below (v + 1) x ≡ different_below v x + 1
+pub below_load : (x : List ℕ) (v i : ℕ) → 0 < v → get_or x i 0 ≡ v → different_below (v + 1) x ≡ different_below v x + 1
 below_load [] v i pos h = absurd (omega arith)
 below_load (load ∷ rest) v i pos h =
     ⊎_elim (λ t. let r = occurs_at v rest t in again t (below_load rest v r.0 pos r.1)) (λ f. last f i h) (cases_Bool (occurs v rest))
@@ -56,7 +56,7 @@ below_load (load ∷ rest) v i pos h =
     last f (suc i) h = absurd (occurs_never v rest pos f i h)
 
 -- no positive load is below 1
-below_one : (x : List ℕ) → different_below 1 x ≡ 0
+pub below_one : (x : List ℕ) → different_below 1 x ≡ 0
 below_one [] = refl
 below_one (load ∷ rest) = let b = below_one rest in grind (arith, nat_tests)
 

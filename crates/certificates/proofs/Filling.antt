@@ -31,7 +31,7 @@ pub record Made (B : List ℕ → Type 0) (x : List ℕ) (bound : ℕ) (rows : L
 
 module _ (B : List ℕ → Type 0) (x : List ℕ) where
   -- above all loads no row is due
-  made_start : (bound : ℕ) → ((i : ℕ) → get_or x i 0 < bound) → Made B x bound []
+  pub made_start : (bound : ℕ) → ((i : ℕ) → get_or x i 0 < bound) → Made B x bound []
   made_start bound low = record {
     falls = λ k l a b. absurd (omega arith);
     above = λ k a. absurd (omega arith);
@@ -41,7 +41,7 @@ module _ (B : List ℕ → Type 0) (x : List ℕ) where
   }
 
   -- the row for the next load comes last
-  made_next : (bound : ℕ) (rows : List CertRow) (row : CertRow) → Made B x bound rows → 0 < row.value → NextLoad x bound row.value → RowFor B x row.value row.set
+  pub made_next : (bound : ℕ) (rows : List CertRow) (row : CertRow) → Made B x bound rows → 0 < row.value → NextLoad x bound row.value → RowFor B x row.value row.set
       → Made B x row.value (rows ++ row ∷ [])
   made_next bound rows row m pos next exact = record {
     falls = λ k l lt h.
@@ -62,7 +62,7 @@ module _ (B : List ℕ → Type 0) (x : List ℕ) where
   }
 
   -- where no load is left, the certificate is complete
-  made_end : (bound : ℕ) (rows : List CertRow) → Made B x bound rows → NextLoad x bound 0 → Certifies B x rows
+  pub made_end : (bound : ℕ) (rows : List CertRow) → Made B x bound rows → NextLoad x bound 0 → Certifies B x rows
   made_end bound rows m next = record {
     falls = m.falls;
     covers = λ i seat pos. m.covers i (⊎_elim (λ (lt : get_or x i 0 < bound). absurd (let h = next.most i lt in omega arith)) (λ (le : bound ≤ get_or x i 0). le) (cases_lt (get_or x i 0) bound));

@@ -1,5 +1,5 @@
 -- The legs of a table with the shares of their ends a, as one list of pairs.
-use Rattle.std.proofs.Common.{◌≡◌, ℕ, ◌+◌, ◌<◌, ◌≤◌, List, [], ◌∷◌, ◌++◌, ◌⊎◌, length, get_or, drop, Option, None, Some, MatchOption, sym, ap, subst, inl, inr, ⊎_elim, ◌∙◌, length-append, length-drop, arith}
+use Rattle.std.proofs.Common.{◌≡◌, ℕ, ◌+◌, ◌<◌, ◌≤◌, List, [], ◌∷◌, ◌++◌, ◌⊎◌, length, get_or, take, drop, Option, None, Some, MatchOption, refl, sym, ap, subst, inl, inr, ⊎_elim, ◌∙◌, length-append, length-drop, arith}
 use Rattle.std.specs.List.{zip, sum_by, AllWithin, HoldsAt}
 use Rattle.std.proofs.Math.Seq.{get_or-append_seam}
 use Rattle.std.proofs.lemmas.Bool.{cases_eq}
@@ -51,6 +51,12 @@ links_more pairs pair u set all before here v = (into, back)
         (λ (e : t ≡ length pairs). inr (seat, subst (λ (p : Leg × ℕ). LegLinks p.0 p.1 u v) (ap (λ (k : ℕ). get_or (pairs ++ pair ∷ []) k no_pair) e ∙ get_or-append_seam pairs pair [] no_pair) links))
         (λ ne. let old : t < length pairs = omega arith in inl ((before v).1 (seat, (t, old, subst (λ (p : Leg × ℕ). LegLinks p.0 p.1 u v) (get_or_append_left pairs (pair ∷ []) no_pair t old) links))))
         (cases_eq t (length pairs)))
+
+-- shares beyond the last leg are in no pair
+pub zip_short : (legs : List Leg) (first : List ℕ) → zip legs (take (length legs) first) ≡ zip legs first
+zip_short [] first = refl
+zip_short (leg ∷ legs) [] = refl
+zip_short (leg ∷ legs) (share ∷ first) = ap (λ (pairs : List (Leg × ℕ)). (leg, share) ∷ pairs) (zip_short legs first)
 
 module _ (legs : List Leg) (first : List ℕ) where
   -- one pair for each leg

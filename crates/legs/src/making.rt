@@ -8,7 +8,6 @@ use crate::table::LegTable;
 use bases::pair_given;
 use faults::{Fault, Kind, Reason};
 use limits::{MOST_LEGS, MOST_PASSAGES, MOST_SEATS};
-use std::array;
 
 impl LegTable {
     // Makes a table of the caller's legs, where end a of each leg has all of it; or refuses with the first fault.
@@ -50,5 +49,10 @@ fn all_passages(legs: &[Leg]) -> [u32; MOST_LEGS]
     requires { length legs.now ≤ 256 }
     ensures { (t : ℕ) → t < length legs.now → slice_index result t ≡ (leg_at legs.now t).passages }
 {
-    array::from_fn(|t| legs.get(t).map_or(0, |leg| leg.passages))
+    // each by its place: of numbers written through `iter_mut`, a proof knows the count alone
+    let mut first = [0; MOST_LEGS];
+    for (t, leg) in legs.iter().enumerate() {
+        first[t] = leg.passages;
+    }
+    first
 }

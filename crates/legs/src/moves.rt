@@ -89,9 +89,10 @@ impl LegTable {
     pub(crate) fn shared(&self) -> SharedLegs<'_>
         ensures { pairs_left result ≡ pairs_of self.now.legs.items self.now.first }
     {
+        // the shares of the legs alone, so that both slices end together
         SharedLegs {
             legs: &self.legs,
-            first: &self.first,
+            first: &self.first[..self.legs.len()],
         }
     }
 

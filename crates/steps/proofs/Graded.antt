@@ -62,10 +62,10 @@ module _ {B : List ℕ → Type 0} {n top : ℕ} (family : Family B n top)
   next = next_unit B n family.width family.few top family.low family.high x hx
 
   -- the order of donors
-  donors_one_way : (a b : ℕ) → 0 < get_or x a 0 → 0 < get_or x b 0 → T (better_donor above x a b) → T (better_donor above x b a) → ⊥
+  pub donors_one_way : (a b : ℕ) → 0 < get_or x a 0 → 0 < get_or x b 0 → T (better_donor above x a b) → T (better_donor above x b a) → ⊥
   donors_one_way a b ha hb = grades.one_way a (get_or x a 0) b (get_or x b 0) (last a ha) (last b hb)
 
-  donors_between : (a b c : ℕ) → 0 < get_or x a 0 → 0 < get_or x b 0 → 0 < get_or x c 0 → T (better_donor above x a b) → T (better_donor above x a c) ⊎ T (better_donor above x c b)
+  pub donors_between : (a b c : ℕ) → 0 < get_or x a 0 → 0 < get_or x b 0 → 0 < get_or x c 0 → T (better_donor above x a b) → T (better_donor above x a c) ⊎ T (better_donor above x c b)
   donors_between a b c ha hb hc = grades.between a (get_or x a 0) b (get_or x b 0) c (get_or x c 0) (last a ha) (last b hb) (last c hc)
 
   pub donors_order : (set : ℕ) → Orders (better_donor above x) (Among set (gives x))
@@ -76,10 +76,10 @@ module _ {B : List ℕ → Type 0} {n top : ℕ} (family : Family B n top)
 
   module _ (i : ℕ) where
     -- the order of the receivers of i
-    receivers_one_way : (a b : ℕ) → Step B above x i a → Step B above x i b → T (better_receiver above x a b) → T (better_receiver above x b a) → ⊥
+    pub receivers_one_way : (a b : ℕ) → Step B above x i a → Step B above x i b → T (better_receiver above x a b) → T (better_receiver above x b a) → ⊥
     receivers_one_way a b sa sb = grades.one_way b (get_or x b 0 + 1) a (get_or x a 0 + 1) (next i b sb.reach) (next i a sa.reach)
 
-    receivers_between : (a b c : ℕ) → Step B above x i a → Step B above x i b → Step B above x i c → T (better_receiver above x a b) → T (better_receiver above x a c) ⊎ T (better_receiver above x c b)
+    pub receivers_between : (a b c : ℕ) → Step B above x i a → Step B above x i b → Step B above x i c → T (better_receiver above x a b) → T (better_receiver above x a c) ⊎ T (better_receiver above x c b)
     receivers_between a b c sa sb sc h =
         ⊎_elim inr inl (grades.between b (get_or x b 0 + 1) a (get_or x a 0 + 1) c (get_or x c 0 + 1) (next i b sb.reach) (next i a sa.reach) (next i c sc.reach) h)
 
