@@ -1,5 +1,5 @@
 // A number in a column: decimal, right-justified with spaces, with no sign and no leading zero.
-ghost use Rattle.std.specs.Prelude.{◌≡◌, ◌^◌, ◌<◌, ◌≤◌, length, None, MatchBool, MatchResult};
+ghost use Rattle.std.specs.Prelude.{◌≡◌, ◌^◌, ◌<◌, ◌≤◌, length, replicate, None, MatchBool, MatchResult};
 ghost use Rattle.std.specs.Option.{unwrap_or};
 ghost use Rattle.columns.specs.Numbers.{grown, number_after, number_of, number_text, Fits, NumberSays};
 
@@ -27,6 +27,8 @@ pub fn put_number(column: &mut [u8], value: u64) -> Result<(), NoRoom>
     if !fits(column.len(), value) {
         return Err(NoRoom);
     }
+    // spaces in the whole column first: its width is known before the number of its digits is
+    column.fill(b' ');
     put_digits(column, value);
     Ok(())
 }
@@ -65,19 +67,19 @@ fn fits(width: usize, value: u64) -> bool
     (1..=WIDEST).contains(&width) && value < 10u64.pow(width as u32)
 }
 
-// Fills a column with a number that has room there: its last digit stands last, and the rest before it.
+// Writes a number that has room there over a column of spaces: its last digit stands last, and the rest before it.
 fn put_digits(column: &mut [u8], value: u64)
-    requires { value < 10 ^ length column.old }
+    requires some { 0 < length column.old }
+    requires room { value < 10 ^ length column.old }
+    requires blank { column.old ≡ replicate (length column.old) 32 }
     ensures { column.new ≡ number_text (length column.old) value }
 {
     let Some((last, front)) = column.split_last_mut() else {
-        return;
+        unreachable!();
     };
     // a digit fits, so the cast cuts nothing off
     *last = b'0' + (value % 10) as u8;
-    if value < 10 {
-        front.fill(b' ');
-    } else {
+    if value >= 10 {
         put_digits(front, value / 10);
     }
 }

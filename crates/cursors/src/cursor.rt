@@ -1,4 +1,6 @@
 // A cursor in a page: what is left of it, and the line and the column that come next, both from 1.
+ghost use Rattle.std.specs.Prelude.{◌+◌, ◌^◌, ◌≤◌, length};
+
 use std::marker::Model;
 
 #[derive(Drop)]
@@ -18,4 +20,15 @@ impl<'a> Model for Cursor<'a> {
     ghost view = { λ c. record { rest = c.rest.now; line = c.line; column = c.column } };
 
     ghost invariant = { λ c. (c.line + length c.rest.now ≤ 2 ^ 20) × (c.column + length c.rest.now ≤ 2 ^ 20) };
+}
+
+impl<'a> Cursor<'a> {
+    // For callers, who see the spot alone: neither the line nor the column runs beyond the bytes of a page.
+    pub fn bounds(&self)
+        ensures lines { self.now.line + length self.now.rest ≤ 2 ^ 20 }
+        ensures columns { self.now.column + length self.now.rest ≤ 2 ^ 20 }
+    {
+        // a use of a field opens the cursor, and so its invariant
+        let _ = &self.line;
+    }
 }

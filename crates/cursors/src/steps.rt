@@ -1,5 +1,5 @@
 // The steps of a reader: each takes what comes next from a cursor, or refuses it with a fault.
-ghost use Rattle.std.specs.Prelude.{◌≡◌, ℕ, ◌≤◌, true, false, length, MatchOption, MatchResult, ◌==◌, slice_index};
+ghost use Rattle.std.specs.Prelude.{◌≡◌, ℕ, ◌≤◌, true, false, length, drop, MatchOption, OnOk, ◌==◌, slice_index};
 ghost use Rattle.limits.specs.Limits.{column_bytes};
 ghost use Rattle.cursors.specs.Steps.{start, block, past, below, here, shown, lies, field, number, number_below, seat, word, at_word, line_end, flawed, page_end, outcome, outcome_by};
 
@@ -30,39 +30,41 @@ impl<'a> Cursor<'a> {
         Fault::on_page(reason, self.line, self.column)
     }
 
-    // The next column, and the cursor behind it, where so many bytes are left.
-    fn next_column(&self) -> Option<(&'a [u8], Cursor<'a>)>
-        ensures { MatchOption result (block column_bytes self.now ≡ None) (λ p. (block column_bytes self.now ≡ Some p.0.now) × (length p.0.now ≡ column_bytes) × (p.1 ≡ past column_bytes self.now)) }
+    // The next column, where so many bytes are left.
+    fn next_column(&self) -> Option<&'a [u8]>
+        ensures { MatchOption result (block column_bytes self.now ≡ None) (λ column. (block column_bytes self.now ≡ Some column.now) × (length column.now ≡ column_bytes) × (column_bytes ≤ length self.now.rest)) }
     {
-        let (column, rest) = self.rest.split_at_checked(COLUMN_BYTES)?;
-        let behind = Cursor {
-            rest,
-            line: self.line,
-            column: self.column + 1,
+        self.rest.get(..COLUMN_BYTES)
+    }
+
+    // Goes on behind the next column.
+    fn pass_column(&mut self)
+        requires { column_bytes ≤ length self.old.rest }
+        ensures { self.new ≡ past column_bytes self.old }
+    {
+        self.rest = &self.rest[COLUMN_BYTES..];
+        self.column += 1;
+    }
+
+    // What is left behind a line feed, where one comes next.
+    fn next_line(&self) -> Option<&'a [u8]>
+        ensures { MatchOption result ((slice_index self.now.rest 0 == 10) ≡ false) (λ rest. ((slice_index self.now.rest 0 == 10) ≡ true) × (1 ≤ length self.now.rest) × (rest.now ≡ drop 1 self.now.rest)) }
+    {
+        self.rest.strip_prefix(b"\n")
+    }
+
+    // The number in the next column.
+    fn shown(&self) -> Result<u64, Fault>
+        ensures value { result ≡ shown self.now }
+        ensures wide { OnOk result (column_bytes ≤ length self.now.rest) }
+    {
+        let Some(column) = self.next_column() else {
+            return Err(self.fault(Reason::Layout));
         };
-        Some((column, behind))
-    }
-
-    // The cursor behind the end of a line, where a line feed comes next.
-    fn next_line(&self) -> Option<Cursor<'a>>
-        ensures { MatchOption result ((slice_index self.now.rest 0 == 10) ≡ false) (λ c. ((slice_index self.now.rest 0 == 10) ≡ true) × (c ≡ below self.now)) }
-    {
-        let rest = self.rest.strip_prefix(b"\n")?;
-        Some(Cursor {
-            rest,
-            line: self.line + 1,
-            column: 1,
-        })
-    }
-
-    // The number in the next column, and the cursor behind it.
-    fn shown(&self) -> Result<(u64, Cursor<'a>), Fault>
-        ensures { MatchResult result (λ p. (shown self.now ≡ Ok p.0) × (p.1 ≡ past column_bytes self.now)) (λ e. shown self.now ≡ Err e) }
-    {
-        let layout = self.fault(Reason::Layout);
-        let (column, behind) = self.next_column().ok_or(layout)?;
-        let value = columns::number(column).ok_or(layout)?;
-        Ok((value, behind))
+        let Some(value) = columns::number(column) else {
+            return Err(self.fault(Reason::Layout));
+        };
+        Ok(value)
     }
 
     // A number that lies in a range, or else this fault.
@@ -75,10 +77,10 @@ impl<'a> Cursor<'a> {
         requires narrow { (v : ℕ) → lies (R.start_bound range) (R.end_bound range) v ≡ true → v ≤ N.greatest }
         ensures { outcome_by N.value result self.new ≡ field (lies (R.start_bound range) (R.end_bound range)) otherwise self.old }
     {
-        let (value, behind) = self.shown()?;
+        let value = self.shown()?;
         match N::narrow(value) {
             Some(number) if range.contains(&value) => {
-                *self = behind;
+                self.pass_column();
                 Ok(number)
             }
             _ => Err(self.fault(otherwise)),
@@ -106,29 +108,25 @@ impl<'a> Cursor<'a> {
         self.within(u64::from(low)..u64::from(n), Reason::ListNotRising)
     }
 
-    // The cursor behind the word, where the next column holds it.
-    fn behind_word(&self, expected: Word) -> Option<Cursor<'a>>
-        ensures { MatchOption result (at_word expected self.now ≡ false) (λ c. (at_word expected self.now ≡ true) × (c ≡ past column_bytes self.now)) }
-    {
-        let (column, behind) = self.next_column()?;
-        columns::holds(column, expected).then_some(behind)
-    }
-
     // Whether the next column holds the word.
     pub fn at_word(&self, expected: Word) -> bool
         ensures value { result ≡ at_word expected self.now }
         ensures wide { result ≡ true → 6 ≤ length self.now.rest }
     {
-        self.behind_word(expected).is_some()
+        let Some(column) = self.next_column() else {
+            return false;
+        };
+        columns::holds(column, expected)
     }
 
     // A word that has to stand here.
     pub fn word(&mut self, expected: Word) -> Result<(), Fault>
         ensures { outcome result self.new ≡ word expected self.old }
     {
-        *self = self
-            .behind_word(expected)
-            .ok_or(self.fault(Reason::Layout))?;
+        if !self.at_word(expected) {
+            return Err(self.fault(Reason::Layout));
+        }
+        self.pass_column();
         Ok(())
     }
 
@@ -136,7 +134,12 @@ impl<'a> Cursor<'a> {
     pub fn end_line(&mut self) -> Result<(), Fault>
         ensures { outcome result self.new ≡ line_end self.old }
     {
-        *self = self.next_line().ok_or(self.fault(Reason::Layout))?;
+        let Some(rest) = self.next_line() else {
+            return Err(self.fault(Reason::Layout));
+        };
+        self.rest = rest;
+        self.line += 1;
+        self.column = 1;
         Ok(())
     }
 

@@ -1,8 +1,8 @@
 use Rattle.std.proofs.Common.{rules}
 use Rattle.std.proofs.lemmas.Bool.Decides.{nat_tests}
-use Rattle.cursors.specs.Steps.{block}
+use Rattle.columns.specs.Rows.{word_column}
 use Rattle.cursors.proofs.cursor.Cursor.at_word.Goals as goal
 
-pub returns-clause-wide : goal.returns-clause-wide
-unfolding block
-returns-clause-wide c = search (rules, nat_tests)
+pub returns : goal.returns
+unfolding word_column
+returns c = search (rules, nat_tests)

@@ -1,8 +1,8 @@
 use Rattle.std.proofs.Common.{rules}
 use Rattle.std.proofs.lemmas.Bool.Decides.{nat_tests}
-use Rattle.columns.specs.Rows.{word_column}
-use Rattle.cursors.proofs.cursor.Cursor.behind_word.Goals as goal
+use Rattle.cursors.specs.Steps.{below}
+use Rattle.cursors.proofs.cursor.Cursor.end_line.Goals as goal
 
 pub returns : goal.returns
-unfolding word_column
+unfolding below
 returns c = search (rules, nat_tests)
